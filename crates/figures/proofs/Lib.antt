@@ -1,0 +1,6 @@
+-- Laws that belong to no one function. Other crates cite them too.
+pub mod Ring
+pub mod Sizes
+pub mod Holds
+pub mod Rounding
+pub mod Splitting
