@@ -1,0 +1,45 @@
+-- The laws that a ladder of refusals is proved by, in the shape of the code's tests: f is what the code found of the test t. Assumes nothing.
+use mathlib.Core.Path.{_≡_, sym, _∙_}
+use mathlib.Core.Bool.{Bool, true, false, not}
+use Prim.Native.Nat.{ℕ, _<_, _≤_}
+use borrow.Author.Tests.{not-true, not-false, lt-ltb, le-ltb, eq-eqb, ne-eqb}
+use Rattle.words.specs.Ladder.{need, whereBelow, orElse}
+
+-- `if !f { return x; }`: the test failed, or it passed and y is the rest's answer
+module _ {A : Type 0} (t f : Bool) where
+  pub stop : (x rest : A) → f ≡ t → not f ≡ true → x ≡ need t x rest
+  unfolding need
+  stop x rest h e = cc (not-true f e)
+
+  pub go : (x y rest : A) → f ≡ t → not f ≡ false → y ≡ rest → y ≡ need t x rest
+  unfolding need
+  go x y rest h e r = cc (not-false f e)
+
+  -- `if f { return x; }`, where the test to pass is that t does not hold
+  pub stop-on : (x rest : A) → f ≡ t → f ≡ true → x ≡ need (not t) x rest
+  unfolding need
+  stop-on x rest h e = cc
+
+  pub go-past : (x y rest : A) → f ≡ t → f ≡ false → y ≡ rest → y ≡ need (not t) x rest
+  unfolding need
+  go-past x y rest h e r = cc
+
+-- `if a < b { .. } else { .. }`
+module _ {A : Type 0} (a b : ℕ) where
+  pub below : (x y z : A) → a < b → z ≡ x → z ≡ whereBelow a b x y
+  unfolding whereBelow
+  below x y z h e = rw (lt-ltb a b h) e
+
+  pub beyond : (x y z : A) → b ≤ a → z ≡ y → z ≡ whereBelow a b x y
+  unfolding whereBelow
+  beyond x y z h e = rw (le-ltb a b h) e
+
+-- one answer after another: r is the code's where the definition has x
+module _ {A : Type 0} (number : A → ℕ) (x y r : A) (e : r ≡ x) where
+  pub refused : (number r ≡ 0 → ⊥) → r ≡ orElse number x y
+  unfolding orElse
+  refused n = e ∙ sym (rw (ne-eqb (number x) 0 (λ q. n (rw e q))))
+
+  pub passed-on : (z : A) → number r ≡ 0 → z ≡ y → z ≡ orElse number x y
+  unfolding orElse
+  passed-on z n q = rw (eq-eqb (number x) 0 (rw e at n)) q

@@ -1,0 +1,60 @@
+-- `words::word` meets its contract. Assumes nothing.
+use borrow.Author.Needs.{needs}
+use native.Mathlib.Omega.{arith}
+use mathlib.Core.Path.{sym, ap, _∙_}
+use lib.IntN.{pos, _-ℤ_}
+use mir.Syntax.{w32, w64}
+use mir.Val.{SFits}
+use Rattle.figures.proofs.Holds.{Holds, held-size, held-literal, difference-fits, difference, cast-fits-of, cast-of}
+use Rattle.words.specs.Words.{signed32, wordAt}
+use Rattle.words.proofs.TwosComplement.{signed32-low, signed32-high, signed32-fits}
+use Rattle.words.proofs.word.Statement.{statement}
+use Rattle.words.proofs.word.Tie as tie
+
+module _ (c : tie.Else1) where
+  n : Holds w64 (c .before .unsigned-word .result) (pos (c .before .unsigned-word .result)) 4_294_967_295
+  n = held-size w64 (omega arith) tt
+
+  below-zero : SFits w32 (pos (c .before .unsigned-word .result) -ℤ pos 4_294_967_296)
+  below-zero = rw (signed32-high (c .if1 .left)) at (signed32-fits (c .before .unsigned-word .ensures .1))
+
+unsigned-word-requires : tie.Need-unsigned-word-requires
+unsigned-word-requires c κs = search needs
+
+cast-result : tie.Need-cast-result
+cast-result c = search needs
+
+cast-result-2 : tie.Need-cast-result-2
+cast-result-2 c = search needs
+
+sub-result : tie.Need-sub-result
+sub-result c = difference-fits (n c) (held-literal w64 4_294_967_296 tt) tt
+
+cast-result-3 : tie.Need-cast-result-3
+cast-result-3 c = cast-fits-of (difference (n c) (held-literal w64 4_294_967_296 tt) tt) (below-zero c)
+
+returns : tie.Need-returns
+unfolding wordAt
+returns c =
+    held-size w32 {B = 2_147_483_647} (omega arith) tt .is
+    ∙ sym (signed32-low (c .if1 .taken))
+    ∙ ap signed32 (c .before .unsigned-word .ensures .0)
+
+returns-2 : tie.Need-returns-2
+unfolding wordAt
+returns-2 c =
+    cast-of (difference (n c) (held-literal w64 4_294_967_296 tt) tt) {v = w32} (below-zero c)
+    ∙ sym (signed32-high (c .if1 .left))
+    ∙ ap signed32 (c .before .unsigned-word .ensures .0)
+
+pub word-spec : {M : Type 1} → statement M
+word-spec =
+    tie.close
+    (tie.spec
+    unsigned-word-requires
+    cast-result
+    cast-result-2
+    sub-result
+    cast-result-3
+    returns
+    returns-2)
