@@ -9,7 +9,7 @@ use native.Mathlib.Nat.{le-refl, le-trans, lt-of-le-of-lt}
 use lib.Dec.{T, ltb, leb, ltb→lt, leb→le}
 use lib.IntN.{ℤ, pos, negℤ, natAbs, _+ℤ_, _-ℤ_, _*ℤ_, +ℤ-idl}
 use lib.Signed.{mag, ltZ, leZ, nonNeg, natAbs-le}
-use mir.Syntax.{Width, w32, w64}
+use mir.Syntax.{Width, w32}
 use mir.Val.{SFits, Fits, hbits, bits, toZ, ofZ}
 use mir.Facts.{toZ-ofZ, toZ-pos}
 use Rattle.figures.specs.Nearest.{withSign}

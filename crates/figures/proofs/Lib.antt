@@ -3,4 +3,6 @@ pub mod Ring
 pub mod Sizes
 pub mod Holds
 pub mod Rounding
+pub mod Interval
 pub mod Splitting
+pub mod StepBounds

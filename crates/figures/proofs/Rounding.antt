@@ -19,13 +19,17 @@ pub record IsNearest (n d r : ℕ) : Type 0 where
   pub low : 2 * (r * d) ≤ 2 * n + d
   pub high : 2 * n < 2 * (r * d) + d
 
+-- (2n + d)/2d, rounded down, is such an r
+halves : (n d x r : ℕ) → 0 < d → x ≡ 2 * n + d → r ≡ x / (2 * d) → IsNearest n d r
+halves n d x r h e q =
+    let parts : r * (2 * d) + x % (2 * d) ≡ x = rw q (div-add-mod' x (2 * d)) in
+    let twice = mul-left-comm r 2 d in
+    let rest : x % (2 * d) < 2 * d = mod-lt x (omega arith) in
+    record { low = omega (arith, parts, twice); high = omega (arith, parts, twice, rest) }
+
 pub is-nearest : (n d : ℕ) → 0 < d → IsNearest n d (nearestSize n d)
 unfolding nearestSize
-is-nearest n d h =
-    let parts = div-add-mod' (2 * n + d) (2 * d) in
-    let twice = mul-left-comm ((2 * n + d) / (2 * d)) 2 d in
-    let rest : (2 * n + d) % (2 * d) < 2 * d = mod-lt (2 * n + d) (omega arith) in
-    record { low = omega (arith, parts, twice); high = omega (arith, parts, twice, rest) }
+is-nearest n d h = halves n d (2 * n + d) (nearestSize n d) h refl refl
 
 pub only-nearest : {n d r : ℕ} → IsNearest n d r → nearestSize n d ≡ r
 unfolding nearestSize

@@ -1,6 +1,6 @@
 -- The size of an integer, `natAbs`: of a sum, a difference, a product, and of a number with a sign put to it; and what a test of order says of sizes.
 -- Assumes nothing.
-use mathlib.Core.Path.{_≡_, refl, sym, ap, _∙_, subst}
+use mathlib.Core.Path.{_≡_, refl, sym, _∙_, subst}
 use mathlib.Core.Bool.{Bool, true, false, not, cond}
 use Prim.Native.Nat.{ℕ, zero, suc, _+_, _*_, _-_, _<_, _≤_, zero-le, suc-le-suc}
 use native.Mathlib.Nat.{le-refl, le-suc, le-trans, add-le-add, mul-le-mul}

@@ -3,12 +3,12 @@
 use mathlib.Core.Path.{_≡_, refl, sym, ap, subst, _∙_}
 use mathlib.Core.Bool.{true, false}
 use Prim.Native.Nat.{ℕ, zero, suc, _+_, _*_, _-_, _/_, _%_, _<_, _≤_, zero-le}
-use native.Mathlib.Nat.{le-refl, le-suc, mul-le-mul-left, mul-le-mul-right, mul-pos, div-add-mod', mod-lt, mul-assoc, mul-comm, mul-left-comm, add-mul, sub-zero, mul-div-cancel}
+use native.Mathlib.Nat.{le-refl, le-suc, mul-le-mul-right, mul-pos, div-add-mod', mod-lt, mul-comm, mul-left-comm, add-mul, sub-zero, mul-div-cancel}
 use native.Mathlib.Omega.{arith}
 use lib.Arith.{digits-div}
-use lib.Dec.{T, lit<}
+use lib.Dec.{T}
 use borrow.Author.Tests.{le-leb}
-use lib.IntN.{ℤ, pos, negsuc, negℤ, natAbs, _+ℤ_, _-ℤ_, _*ℤ_, +ℤ-one, negℤ-+ℤ, -ℤ-+ℤ-cancel}
+use lib.IntN.{ℤ, pos, negsuc, negℤ, natAbs, _+ℤ_, _*ℤ_, +ℤ-one, negℤ-+ℤ, -ℤ-+ℤ-cancel}
 use lib.Signed.{leZ}
 use Rattle.figures.specs.Nearest.{withSign, nearestSize, nearest}
 use Rattle.figures.specs.Wide.{towardZero}

@@ -45,13 +45,17 @@ mostQ = 3_600_000
 abbrev pub mostX : ℕ
 mostX = 90_000_000
 
--- the size of any 32-bit number
+-- the size of any 32-bit number: a word, or x′ where a scale table reaches furthest
 abbrev pub mostWord : ℕ
 mostWord = 2_147_483_648
 
+-- a table's row: any word, and a mapping radius of two words, in 0.01 ft, under 100,000,000 ft
+abbrev pub mostRow : ℕ
+mostRow = 10_000_000_000
+
 -- a table's step: the widest is that of latitude rows 1,666 minutes apart, in 0.001″
 abbrev pub mostStep : ℕ
-mostStep = 1_000_000_000
+mostStep = 100_000_000
 
 -- the rise of y0 from one latitude row to the next, in 0.01 ft: no y0 is above 999,999,999
 abbrev pub mostRise : ℕ

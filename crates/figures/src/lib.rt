@@ -1,10 +1,10 @@
 // Exact numbers: rounding, reading between rows, and the Survey's printed steps, each over whole numbers in the sheet's units.
 ghost use mathlib.Core.Path.{_≡_};
-ghost use Prim.Native.Nat.{ℕ, _+_, _*_, _^_, _<_, _≤_};
-ghost use lib.IntN.{ℤ, natAbs};
+ghost use Prim.Native.Nat.{_+_, _*_, _^_, _<_, _≤_};
+ghost use lib.IntN.{natAbs};
 ghost use Rattle.figures.specs.Nearest.{withSign, nearestSize, nearest};
 ghost use Rattle.figures.specs.Between.{between};
-ghost use Rattle.figures.specs.Ranges.{mostH, mostV, mostA, mostB, mostC, mostP, mostM, mostD, mostS, mostQ, mostX, mostWord, mostStep, mostRise};
+ghost use Rattle.figures.specs.Ranges.{mostH, mostV, mostA, mostB, mostC, mostP, mostM, mostD, mostS, mostQ, mostX, mostWord, mostRow, mostStep, mostRise};
 ghost use Rattle.figures.specs.Steps.{qOf, sizeOfX, rise, reduction, seconds, approximateL, sizeOfL, convergence, perSecond};
 ghost use Rattle.figures.specs.Wide.{towardZero};
 
@@ -42,7 +42,7 @@ pub fn nearest(n: i64, d: u64) -> i64
 
 // The value between rows u and w of a step, at an offset t below it, rounded once.
 pub fn between(u: i64, w: i64, t: u64, step: u64) -> i64
-    requires { ⌜ (natAbs u ≤ mostWord) × (natAbs w ≤ mostWord) × (t < step) × (step ≤ mostStep) ⌝ }
+    requires { ⌜ (natAbs u ≤ mostRow) × (natAbs w ≤ mostRow) × (t < step) × (step ≤ mostStep) ⌝ }
     ensures { λ r. ⌜ r ≡ between u w t step ⌝ }
 {
     nearest(u * (step as i64) + (w - u) * (t as i64), step)

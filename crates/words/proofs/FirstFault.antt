@@ -7,7 +7,6 @@ use native.Mathlib.Numerals.{add-one}
 use native.Mathlib.Omega.{arith}
 use lib.Dec.{eqb}
 use borrow.Author.Tests.{eq-eqb, ne-eqb, eqb-true, eqb-false}
-use Rattle.words.specs.declared.Fault.{Fault}
 use Rattle.words.specs.Faults.{fault, firstFault}
 
 -- ---- of a loop: i places were passed, and x is what the test of place i answered

@@ -1,7 +1,6 @@
 // A sheet's words: read and written at a word number, four bytes each, big-endian, two's complement.
 ghost use mathlib.Core.Path.{_≡_};
-ghost use Prim.Native.Nat.{ℕ, _+_, _*_, _<_, _≤_};
-ghost use lib.IntN.{ℤ};
+ghost use Prim.Native.Nat.{_+_, _*_, _<_, _≤_};
 ghost use lib.ListN.{length};
 ghost use Rattle.words.specs.Words.{unsignedAt, wordAt, bits32, putWord};
 

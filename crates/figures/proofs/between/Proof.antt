@@ -5,17 +5,17 @@ use lib.IntN.{pos}
 use mir.Syntax.{w64}
 use mir.Val.{ofZ}
 use Rattle.figures.specs.Between.{between}
-use Rattle.figures.specs.Ranges.{mostWord, mostStep}
+use Rattle.figures.specs.Ranges.{mostRow, mostStep}
 use Rattle.figures.proofs.Holds.{Holds, held, held-size, sum-fits, sum, difference-fits, difference, product-fits, product, size-most}
 use Rattle.figures.proofs.Rounding.{rounded}
 use Rattle.figures.proofs.between.Statement.{statement}
 use Rattle.figures.proofs.between.Tie as tie
 
 module _ (c : tie.Start) where
-  u : Holds w64 (ofZ w64 (c .args .u)) (c .args .u) mostWord
+  u : Holds w64 (ofZ w64 (c .args .u)) (c .args .u) mostRow
   u = held (c .fits .u) (c .pre .0)
 
-  w : Holds w64 (ofZ w64 (c .args .w)) (c .args .w) mostWord
+  w : Holds w64 (ofZ w64 (c .args .w)) (c .args .w) mostRow
   w = held (c .fits .w) (c .pre .1)
 
   step : Holds w64 (c .args .step) (pos (c .args .step)) mostStep
@@ -23,6 +23,12 @@ module _ (c : tie.Start) where
 
   t : Holds w64 (c .args .t) (pos (c .args .t)) mostStep
   t = held-size w64 (omega arith) tt
+
+returns : tie.Need-returns
+unfolding between
+returns c =
+    let b = c .before in
+    rounded (b .args .step) (sum (product (u b) (step b) tt) (product (difference (w b) (u b) tt) (t b) tt) tt) (c .nearest .ok) (c .nearest .ensures)
 
 cast-nearest : tie.Need-cast-nearest
 cast-nearest c = search needs
@@ -45,12 +51,6 @@ add-nearest c = sum-fits (product (u c) (step c) tt) (product (difference (w c) 
 nearest-requires : tie.Need-nearest-requires
 nearest-requires c κs =
     (size-most (sum (product (u c) (step c) tt) (product (difference (w c) (u c) tt) (t c) tt) tt) tt, omega arith, omega arith)
-
-returns : tie.Need-returns
-unfolding between
-returns c =
-    let b = c .before in
-    rounded (b .args .step) (sum (product (u b) (step b) tt) (product (difference (w b) (u b) tt) (t b) tt) tt) (c .nearest .ok) (c .nearest .ensures)
 
 pub between-spec : {M : Type 1} → statement M
 between-spec =

@@ -18,6 +18,10 @@ module _ (c : tie.Start) where
   x : Holds w64 (ofZ w64 (c .args .x)) (c .args .x) mostWord
   x = held (c .fits .x) (c .pre .1)
 
+returns : tie.Need-returns
+unfolding convergence
+returns c = rounded 100_000_000 (product (m (c .before)) (x (c .before)) tt) (c .nearest .ok) (c .nearest .ensures)
+
 cast-nearest : tie.Need-cast-nearest
 cast-nearest c = search needs
 
@@ -26,10 +30,6 @@ mul-nearest c = product-fits (m c) (x c) tt
 
 nearest-requires : tie.Need-nearest-requires
 nearest-requires c κs = (size-most (product (m c) (x c) tt) tt, lit< tt, lit≤ tt)
-
-returns : tie.Need-returns
-unfolding convergence
-returns c = rounded 100_000_000 (product (m (c .before)) (x (c .before)) tt) (c .nearest .ok) (c .nearest .ensures)
 
 pub convergence-spec : {M : Type 1} → statement M
 convergence-spec = tie.close (tie.spec cast-nearest mul-nearest nearest-requires returns)

@@ -1,12 +1,11 @@
 -- `figures::nearest` meets its contract. Assumes nothing.
 use native.Mathlib.Omega.{arith}
 use mathlib.Core.Path.{_≡_}
-use Prim.Native.Nat.{_≤_}
 use lib.IntN.{pos, natAbs}
 use mir.Syntax.{w64}
 use mir.Facts.{toZ-ofZ}
 use borrow.Author.Needs.{sfits-of}
-use Rattle.figures.specs.Nearest.{nearest, nearestSize}
+use Rattle.figures.specs.Nearest.{nearest}
 use Rattle.figures.proofs.Holds.{Holds, held, held-size, size-below}
 use Rattle.figures.proofs.Rounding.{nearestSize-le}
 use Rattle.figures.proofs.nearest.Statement.{statement}

@@ -19,6 +19,10 @@ module _ (c : tie.Start) where
   difference : Holds w64 (ofZ w64 (c .args .difference)) (c .args .difference) (mostWord + mostWord)
   difference = held (c .fits .difference) (c .pre .1)
 
+returns : tie.Need-returns
+unfolding perSecond
+returns c = rounded 60 (product (scale (c .before)) (difference (c .before)) tt) (c .nearest .ok) (c .nearest .ensures)
+
 cast-nearest : tie.Need-cast-nearest
 cast-nearest c = search needs
 
@@ -27,10 +31,6 @@ mul-nearest c = product-fits (scale c) (difference c) tt
 
 nearest-requires : tie.Need-nearest-requires
 nearest-requires c κs = (size-most (product (scale c) (difference c) tt) tt, lit< tt, lit≤ tt)
-
-returns : tie.Need-returns
-unfolding perSecond
-returns c = rounded 60 (product (scale (c .before)) (difference (c .before)) tt) (c .nearest .ok) (c .nearest .ensures)
 
 pub per-second-spec : {M : Type 1} → statement M
 per-second-spec = tie.close (tie.spec cast-nearest mul-nearest nearest-requires returns)

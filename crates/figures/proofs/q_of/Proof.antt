@@ -11,15 +11,15 @@ use Rattle.figures.proofs.q_of.Tie as tie
 square-small : (c : tie.Start) → c .args .s * c .args .s ≤ mostWord * mostWord
 square-small c = product-most mostWord mostWord (c .pre) (c .pre)
 
+returns : tie.Need-returns
+unfolding qOf
+returns c = c .nearest-size .ensures
+
 mul-nearest-size : tie.Need-mul-nearest-size
 mul-nearest-size c = omega (arith, square-small c)
 
 nearest-size-requires : tie.Need-nearest-size-requires
 nearest-size-requires c κs = (omega (arith, square-small c), lit< tt, lit≤ tt)
-
-returns : tie.Need-returns
-unfolding qOf
-returns c = c .nearest-size .ensures
 
 pub q-of-spec : {M : Type 1} → statement M
 q-of-spec = tie.close (tie.spec mul-nearest-size nearest-size-requires returns)

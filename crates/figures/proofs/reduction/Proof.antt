@@ -45,6 +45,22 @@ module _ (c : tie.Start) where
   high : Holds w64 61_035_156_250 (pos 61_035_156_250) 61_035_156_250
   high = held-literal w64 61_035_156_250 tt
 
+-- what `toward_zero` answered: the product and d·10¹⁵, without what is below LOW
+dropped : (c : tie.After-toward-zero) → Holds w64 (ofZ w64 (c .toward-zero .result)) (towardZero (pos (whole (c .before)) +ℤ c .before .args .d *ℤ pos 61_035_156_250) (low (c .before) % 16_384)) 494_390_869_141_625_000
+dropped c =
+    let b = c .before in
+    let t = sum (whole-held b) (product (d b) (high b) tt) tt in
+    let e = c .toward-zero .ensures ∙ ap (λ (z : ℤ). towardZero z (low b % 16_384)) (t .is) in
+    let k = le-trans (size-toward (pos (whole b) +ℤ b .args .d *ℤ pos 61_035_156_250) (low b % 16_384)) (t .size) in
+    record { is = toZ-ofZ (sfits-of (c .toward-zero .ok)) ∙ e; size = k }
+
+returns : tie.Need-returns
+unfolding reduction
+returns c =
+    let a = c .before .before .args in
+    rounded 61_035_156_250 (dropped (c .before)) (c .nearest .ok) (c .nearest .ensures)
+    ∙ sym (wide-nearest (a .p) (a .x * a .x) 16_384 30_517_578_125 (a .d) (lit< tt) (lit< tt))
+
 mul-square : tie.Need-mul-square
 mul-square c = omega (arith, square-small c)
 
@@ -72,24 +88,8 @@ add-t c = sum-fits (whole-held c) (product (d c) (high c) tt) tt
 toward-zero-requires : tie.Need-toward-zero-requires
 toward-zero-requires c κs = size-below (sum (whole-held c) (product (d c) (high c) tt) tt) tt
 
--- what `toward_zero` answered: the product and d·10¹⁵, without what is below LOW
-dropped : (c : tie.After-toward-zero) → Holds w64 (ofZ w64 (c .toward-zero .result)) (towardZero (pos (whole (c .before)) +ℤ c .before .args .d *ℤ pos 61_035_156_250) (low (c .before) % 16_384)) 494_390_869_141_625_000
-dropped c =
-    let b = c .before in
-    let t = sum (whole-held b) (product (d b) (high b) tt) tt in
-    let e = c .toward-zero .ensures ∙ ap (λ (z : ℤ). towardZero z (low b % 16_384)) (t .is) in
-    let k = le-trans (size-toward (pos (whole b) +ℤ b .args .d *ℤ pos 61_035_156_250) (low b % 16_384)) (t .size) in
-    record { is = toZ-ofZ (sfits-of (c .toward-zero .ok)) ∙ e; size = k }
-
 nearest-requires : tie.Need-nearest-requires
 nearest-requires c κs = (size-most (dropped c) tt, lit< tt, lit≤ tt)
-
-returns : tie.Need-returns
-unfolding reduction
-returns c =
-    let a = c .before .before .args in
-    rounded 61_035_156_250 (dropped (c .before)) (c .nearest .ok) (c .nearest .ensures)
-    ∙ sym (wide-nearest (a .p) (a .x * a .x) 16_384 30_517_578_125 (a .d) (lit< tt) (lit< tt))
 
 pub reduction-spec : {M : Type 1} → statement M
 reduction-spec =

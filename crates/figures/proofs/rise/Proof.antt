@@ -26,6 +26,12 @@ module _ (c : tie.Start) where
   million : Holds w64 1_000_000 (pos 1_000_000) 1_000_000
   million = held-literal w64 1_000_000 tt
 
+returns : tie.Need-returns
+unfolding rise
+returns c =
+    let b = c .before in
+    rounded 10_000_000 (sum (vq b) (product (figure-c b) (million b) tt) tt) (c .nearest .ok) (c .nearest .ensures)
+
 mul-nearest : tie.Need-mul-nearest
 mul-nearest c = omega (arith, vq-small c)
 
@@ -40,12 +46,6 @@ add-nearest c = sum-fits (vq c) (product (figure-c c) (million c) tt) tt
 
 nearest-requires : tie.Need-nearest-requires
 nearest-requires c κs = (size-most (sum (vq c) (product (figure-c c) (million c) tt) tt) tt, lit< tt, lit≤ tt)
-
-returns : tie.Need-returns
-unfolding rise
-returns c =
-    let b = c .before in
-    rounded 10_000_000 (sum (vq b) (product (figure-c b) (million b) tt) tt) (c .nearest .ok) (c .nearest .ensures)
 
 pub rise-spec : {M : Type 1} → statement M
 rise-spec =

@@ -10,15 +10,15 @@ use Rattle.figures.proofs.seconds.Tie as tie
 product-small : (c : tie.Start) → c .args .span * c .args .past ≤ mostStep * mostRise
 product-small c = product-most mostStep mostRise (c .pre .0) (c .pre .1)
 
+returns : tie.Need-returns
+unfolding seconds
+returns c = c .nearest-size .ensures
+
 mul-nearest-size : tie.Need-mul-nearest-size
 mul-nearest-size c = omega (arith, product-small c)
 
 nearest-size-requires : tie.Need-nearest-size-requires
 nearest-size-requires c κs = (omega (arith, product-small c), omega arith, omega arith)
-
-returns : tie.Need-returns
-unfolding seconds
-returns c = c .nearest-size .ensures
 
 pub seconds-spec : {M : Type 1} → statement M
 seconds-spec = tie.close (tie.spec mul-nearest-size nearest-size-requires returns)

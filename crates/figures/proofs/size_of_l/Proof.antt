@@ -25,6 +25,12 @@ module _ (c : tie.Start) where
   thousand : Holds w64 1_000 (pos 1_000) 1_000
   thousand = held-literal w64 1_000 tt
 
+returns : tie.Need-returns
+unfolding sizeOfL
+returns c =
+    let d = c .before in
+    rounded (d .args .h) (product (difference (x d) (product (a d) (b d) tt) tt) (thousand d) tt) (c .nearest .ok) (c .nearest .ensures)
+
 mul-nearest : tie.Need-mul-nearest
 mul-nearest c = search needs
 
@@ -42,12 +48,6 @@ mul-nearest-3 c = product-fits (difference (x c) (product (a c) (b c) tt) tt) (t
 
 nearest-requires : tie.Need-nearest-requires
 nearest-requires c κs = (size-most (product (difference (x c) (product (a c) (b c) tt) tt) (thousand c) tt) tt, omega arith, omega arith)
-
-returns : tie.Need-returns
-unfolding sizeOfL
-returns c =
-    let d = c .before in
-    rounded (d .args .h) (product (difference (x d) (product (a d) (b d) tt) tt) (thousand d) tt) (c .nearest .ok) (c .nearest .ensures)
 
 pub size-of-l-spec : {M : Type 1} → statement M
 size-of-l-spec =

@@ -29,6 +29,12 @@ module _ (c : tie.Start) where
   thousand : Holds w64 1_000 (pos 1_000) 1_000
   thousand = held-literal w64 1_000 tt
 
+returns : tie.Need-returns
+unfolding sizeOfX
+returns c =
+    let d = c .before in
+    rounded 10_000_000 (sum (hs d) (product (product (a d) (b d) tt) (thousand d) tt) tt) (c .nearest .ok) (c .nearest .ensures)
+
 mul-nearest : tie.Need-mul-nearest
 mul-nearest c = omega (arith, hs-small c)
 
@@ -46,12 +52,6 @@ add-nearest c = sum-fits (hs c) (product (product (a c) (b c) tt) (thousand c) t
 
 nearest-requires : tie.Need-nearest-requires
 nearest-requires c κs = (size-most (sum (hs c) (product (product (a c) (b c) tt) (thousand c) tt) tt) tt, lit< tt, lit≤ tt)
-
-returns : tie.Need-returns
-unfolding sizeOfX
-returns c =
-    let d = c .before in
-    rounded 10_000_000 (sum (hs d) (product (product (a d) (b d) tt) (thousand d) tt) tt) (c .nearest .ok) (c .nearest .ensures)
 
 pub size-of-x-spec : {M : Type 1} → statement M
 size-of-x-spec =

@@ -31,6 +31,12 @@ kept c =
     let b = c .before in
     rebounded (cast (v b) {v = w64} tt) (bits32-not-below (b .args .v) (rw (cast (v b) {v = w64} tt .is) at (c .if1 .left))) (bits-small b)
 
+returns : tie.Need-returns
+returns c = (unsigned (raised c), rw (unsigned (raised c)) (bits32-small (c .before .args .v) (c .before .fits .v)))
+
+returns-2 : tie.Need-returns-2
+returns-2 c = (unsigned (kept c), rw (unsigned (kept c)) (bits32-small (c .before .args .v) (c .before .fits .v)))
+
 cast-z : tie.Need-cast-z
 cast-z c = cast-fits (v c) tt
 
@@ -42,12 +48,6 @@ cast-result c = unsigned-fits (raised c) tt tt
 
 cast-result-2 : tie.Need-cast-result-2
 cast-result-2 c = unsigned-fits (kept c) tt tt
-
-returns : tie.Need-returns
-returns c = (unsigned (raised c), rw (unsigned (raised c)) (bits32-small (c .before .args .v) (c .before .fits .v)))
-
-returns-2 : tie.Need-returns-2
-returns-2 c = (unsigned (kept c), rw (unsigned (kept c)) (bits32-small (c .before .args .v) (c .before .fits .v)))
 
 pub bits-of-spec : {M : Type 1} → statement M
 bits-of-spec = tie.close (tie.spec cast-z add-result cast-result cast-result-2 returns returns-2)

@@ -1,0 +1,11 @@
+-- Every case of the list is worked as it is printed: one statement, by computation. Assumes nothing.
+use mathlib.Core.Path.{_≡_, refl}
+use mathlib.Core.List.{map}
+use Rattle.figures.specs.Nearest.{withSign, nearestSize, nearest}
+use Rattle.figures.specs.Between.{between}
+use Rattle.figures.specs.Steps.{qOf, sizeOfX, rise, reduction, seconds, perSecond}
+use Rattle.promises.specs.Cases.{Case, starred, harvey, kahela, kahelaBack, irish, irishBack, naper, row2048, halfM, halfA}
+
+pub cases-hold : map (λ (c : Case). c .worked) starred ≡ map (λ (c : Case). c .printed) starred
+unfolding withSign nearestSize nearest between qOf sizeOfX rise reduction seconds perSecond starred harvey kahela kahelaBack irish irishBack naper row2048 halfM halfA
+cases-hold = refl

@@ -1,0 +1,81 @@
+-- The worked figures of the Survey's sheets that are proved: each case has the figures that the definitions give, and those that are printed.
+use mathlib.Core.List.{List, [], _∷_}
+use lib.IntN.{ℤ, pos, negℤ, _-ℤ_}
+use Rattle.figures.specs.Nearest.{withSign, nearest}
+use Rattle.figures.specs.Between.{between}
+use Rattle.figures.specs.Steps.{qOf, sizeOfX, rise, reduction, seconds, perSecond}
+
+pub record Case : Type 0 where
+  pub worked : List ℤ
+  pub printed : List ℤ
+
+-- Document 000, Harvey: at 38°26′17.646″ y0 341,647.98, H 79.567780, between the rows 38°26′ and 38°27′.
+unfoldable pub harvey : Case
+harvey = record {
+  worked = between (pos 33_986_295) (pos 34_593_243) 17_646 60_000 ∷ between (pos 79_573_162) (pos 79_554_863) 17_646 60_000 ∷ [];
+  printed = pos 34_164_798 ∷ pos 79_567_780 ∷ [];
+}
+
+-- Document 003, Kahela: at 19°37′23.477″ y0 286,828.13, H 95.595105, between the rows 19°37′ and 19°38′.
+unfoldable pub kahela : Case
+kahela = record {
+  worked = between (pos 28_445_984) (pos 29_051_245) 23_477 60_000 ∷ between (pos 95_598_962) (pos 95_589_105) 23_477 60_000 ∷ [];
+  printed = pos 28_682_813 ∷ pos 95_595_105 ∷ [];
+}
+
+-- Kahela back: y0 286,828.14, which is 2,368.30 ft above the row, whose next is 6,052.61 ft above it, returns 23.477″.
+unfoldable pub kahelaBack : Case
+kahelaBack = record {
+  worked = pos (seconds 60_000 236_830 605_261) ∷ [];
+  printed = pos 23_477 ∷ [];
+}
+
+-- Document 002, Irish: L −2,526.978 has q 638.562; H 72.635503, L, a −0.263, b 1.098 give x′ −183,548.03; V 1.231546, q, c −0.107 give 786.31.
+unfoldable pub irish : Case
+irish = record {
+  worked =
+      pos (qOf 2_526_978) ∷
+      withSign (negℤ (pos 2_526_978)) (sizeOfX 72_635_503 2_526_978 (negℤ (pos 263)) (pos 1_098)) ∷
+      rise 1_231_546 638_562 (negℤ (pos 107)) ∷
+      [];
+  printed = pos 638_562 ∷ negℤ (pos 18_354_803) ∷ pos 78_631 ∷ [];
+}
+
+-- Irish back: P 2.33389, x′ and d 0.02 give 786.30.
+unfoldable pub irishBack : Case
+irishBack = record {
+  worked = reduction 233_389 18_354_803 (pos 2) ∷ [];
+  printed = pos 78_630 ∷ [];
+}
+
+-- Document 001, Naper: V 1.223859, q 59.785, c −0.013 give 73.16; back, P 2.13085, d 0 and x′ 58,591.51 give 73.15. The trip is not exact.
+unfoldable pub naper : Case
+naper = record {
+  worked = rise 1_223_859 59_785 (negℤ (pos 13)) ∷ reduction 213_085 5_859_151 (pos 0) ∷ [];
+  printed = pos 7_316 ∷ pos 7_315 ∷ [];
+}
+
+-- Document 003, row 20°48′: H 94.879133, next 94.868706, so ΔH is 173.78 (the copy reads 173.71).
+unfoldable pub row2048 : Case
+row2048 = record {
+  worked = perSecond 100 (pos 94_879_133 -ℤ pos 94_868_706) ∷ [];
+  printed = pos 17_378 ∷ [];
+}
+
+-- Case sheet, y 50,000 ft: M 0.0038423, a half between 0.0038150 at 0 ft and 0.0038695 at 100,000 ft.
+unfoldable pub halfM : Case
+halfM = record {
+  worked = between (pos 38_150) (pos 38_695) 5_000_000 10_000_000 ∷ [];
+  printed = pos 38_423 ∷ [];
+}
+
+-- −0.9875 is −0.988 to three places, and so is a half way between the case sheet's a −0.988 and −0.987.
+unfoldable pub halfA : Case
+halfA = record {
+  worked = nearest (negℤ (pos 9_875)) 10 ∷ between (negℤ (pos 988)) (negℤ (pos 987)) 30_000 60_000 ∷ [];
+  printed = negℤ (pos 988) ∷ negℤ (pos 988) ∷ [];
+}
+
+-- The list. Cases of whole operations join it as these are built.
+unfoldable pub starred : List Case
+starred = harvey ∷ kahela ∷ kahelaBack ∷ irish ∷ irishBack ∷ naper ∷ row2048 ∷ halfM ∷ halfA ∷ []

@@ -1,0 +1,3 @@
+-- What the theorems of `promises` say: the printed cases, and what "nearest" means.
+pub mod Cases
+pub mod Meaning
