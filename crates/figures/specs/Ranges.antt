@@ -1,11 +1,13 @@
--- The greatest size of each figure that reaches a step of a conversion: the ranges of a passing sheet, in the sheet's units.
+-- The bounds that contracts ask of the figures that reach a step, in the sheet's units: no figure of a passing sheet passes them.
+-- From H to q they are the ranges of the sheet. Those after are wider than today's sheet needs, so that they hold for the later forms of a sheet too,
+-- which may bring their own steps, leave out latitude rows, or hold mapping radii.
 use Prim.Native.Nat.{ℕ}
 
 -- H, in 0.000001 ft to a second
 abbrev pub mostH : ℕ
 mostH = 102_000_000
 
--- V, in 0.000001 ft
+-- V, in 0.000001 ft to a unit of q
 abbrev pub mostV : ℕ
 mostV = 1_400_000
 
@@ -21,7 +23,7 @@ mostB = 20_000
 abbrev pub mostC : ℕ
 mostC = 2_000
 
--- P, in 0.00001 ft
+-- P, in 0.00001 ft to the square of 10,000 ft
 abbrev pub mostP : ℕ
 mostP = 1_000_000
 
@@ -41,22 +43,33 @@ mostS = 6_000_000
 abbrev pub mostQ : ℕ
 mostQ = 3_600_000
 
--- the size of x′ in the inverse, in 0.01 ft: the last of ten kind 5 rows at the widest step, 900,000 ft
+-- the size of x′ in the inverse, in 0.01 ft: the last of ten kind 5 rows stands at 450,000 ft, and at 900,000 ft where the sheet brings its steps
 abbrev pub mostX : ℕ
 mostX = 90_000_000
 
--- the size of any 32-bit number: a word, or x′ where a scale table reaches furthest
+-- the size of any 32-bit number: a word, and x′ within 200 kind 6 rows, at 995,000 ft, and at 19,900,000 ft where the sheet brings its steps
 abbrev pub mostWord : ℕ
 mostWord = 2_147_483_648
 
--- a table's row: any word, and a mapping radius of two words, in 0.01 ft, under 100,000,000 ft
+-- a table's row: any word, and a mapping radius in 0.01 ft, below 100,000,000 ft
 abbrev pub mostRow : ℕ
 mostRow = 10_000_000_000
 
--- a table's step: the widest is that of latitude rows 1,666 minutes apart, in 0.001″
+-- a table's step, in the point's unit: 10,000,000 is kind 4's, and latitude rows may come to stand 1,666 minutes apart
 abbrev pub mostStep : ℕ
 mostStep = 100_000_000
 
--- the rise of y0 from one latitude row to the next, in 0.01 ft: no y0 is above 999,999,999
-abbrev pub mostRise : ℕ
-mostRise = 1_000_000_000
+-- the gap from one latitude row's y0 to the next one's, in 0.01 ft: 615,000 a minute, and no y0 is above 999,999,999
+abbrev pub mostGap : ℕ
+mostGap = 1_000_000_000
+
+-- the scale of a per-second column: 1000 for Δy, 100 for ΔH and ΔV
+abbrev pub mostScale : ℕ
+mostScale = 1_000
+
+-- what `nearest` divides, and by what: so that twice the one and the other together fit 64 bits
+abbrev pub mostNumerator : ℕ
+mostNumerator = 8_000_000_000_000_000_000
+
+abbrev pub mostDivisor : ℕ
+mostDivisor = 1_000_000_000_000_000_000

@@ -1,12 +1,12 @@
 -- The Survey's printed steps, one definition a step, over whole numbers in the sheet's and the point's units.
--- A figure that cannot be negative is a ℕ; a, b, c, d, x′ and what they enter are ℤ. Each step rounds once, by nearest.
+-- A figure that cannot be negative is a ℕ, and so is a size; a, b, c, d, a signed x′ and what they enter are ℤ. Each step rounds once, by nearest.
 use Prim.Native.Nat.{ℕ, _*_}
 use lib.IntN.{ℤ, pos, _+ℤ_, _-ℤ_, _*ℤ_}
 use Rattle.figures.specs.Nearest.{nearestSize, nearest}
 
 -- ---- geographic to plane
 
--- "q = (s/100)² to 0.001." s in 0.001″, q in 0.001: s² has the unit 10⁻¹⁰.
+-- "q = (s/100)² to 0.001." s in 0.001″, q in 0.001: the square of s/100 has the unit 10⁻¹⁰.
 unfoldable pub qOf : ℕ → ℕ
 qOf s = nearestSize (s * s) 10_000_000
 
@@ -20,11 +20,12 @@ rise v q c = nearest (pos (v * q) +ℤ c *ℤ pos 1_000_000) 10_000_000
 
 -- ---- plane to geographic
 
--- "nearest hundredth of (P(x′/10,000)² + d)": P in 0.00001, the size x of x′ and d in 0.01 ft, the answer in 0.01 ft. P·x² has the unit 10⁻¹⁷, d 10⁻².
+-- "nearest hundredth of (P(x′/10,000)² + d)": P in 0.00001, the size x of x′ and d in 0.01 ft, the answer in 0.01 ft. P times the square of x′/10,000 has the unit 10⁻¹⁷, d 10⁻².
 unfoldable pub reduction : ℕ → ℕ → ℤ → ℤ
 reduction p x d = nearest (pos (p * (x * x)) +ℤ d *ℤ pos 1_000_000_000_000_000) 1_000_000_000_000_000
 
 -- "seconds = 60(reduced − y0)/(y0 next − y0), to 0.001": span is the 60 in 0.001″, past is reduced − y0 and gap is y0 next − y0, both in 0.01 ft.
+-- It comes to the whole span where past is just short of the gap: what that means for the minute is the inverse's to say.
 unfoldable pub seconds : ℕ → ℕ → ℕ → ℕ
 seconds span past gap = nearestSize (span * past) gap
 
@@ -45,5 +46,6 @@ convergence m x = nearest (pos m *ℤ x) 100_000_000
 -- ---- a sheet's per-second columns
 
 -- "Δy, ΔH and ΔV are the differences over 60 seconds: nearest whole to 1000(y0 next − y0)/60, 100(H − H next)/60, 100(V next − V)/60".
+-- The scale is 1000 for Δy and 100 for the others; the difference is the next row's figure less this one's, and for ΔH this one's less the next.
 unfoldable pub perSecond : ℕ → ℤ → ℤ
 perSecond scale difference = nearest (pos scale *ℤ difference) 60

@@ -1,8 +1,8 @@
--- What the wide product of the reduction leaves when its low part is dropped.
+-- Rounding toward zero, by which the reduction's product, too wide for 64 bits, loses its low part before it is rounded to the nearest.
 use Prim.Native.Nat.{ℕ, zero, suc}
 use lib.IntN.{ℤ, pos, negsuc, negℤ}
 
--- t + e/K rounded toward zero, where e is from 0 to below K: t, or t + 1 where t is below zero and e is not 0.
+-- t + e/K rounded toward zero, for any K above e: t, or t + 1 where t is below zero and e is not 0.
 unfoldable pub towardZero : ℤ → ℕ → ℤ
 towardZero (pos t) e = pos t
 towardZero (negsuc t) zero = negsuc t

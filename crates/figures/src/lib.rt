@@ -4,7 +4,7 @@ ghost use Prim.Native.Nat.{_+_, _*_, _^_, _<_, _≤_};
 ghost use lib.IntN.{natAbs};
 ghost use Rattle.figures.specs.Nearest.{withSign, nearestSize, nearest};
 ghost use Rattle.figures.specs.Between.{between};
-ghost use Rattle.figures.specs.Ranges.{mostH, mostV, mostA, mostB, mostC, mostP, mostM, mostD, mostS, mostQ, mostX, mostWord, mostRow, mostStep, mostRise};
+ghost use Rattle.figures.specs.Ranges.{mostH, mostV, mostA, mostB, mostC, mostP, mostM, mostD, mostS, mostQ, mostX, mostWord, mostRow, mostStep, mostGap, mostScale, mostNumerator, mostDivisor};
 ghost use Rattle.figures.specs.Steps.{qOf, sizeOfX, rise, reduction, seconds, approximateL, sizeOfL, convergence, perSecond};
 ghost use Rattle.figures.specs.Wide.{towardZero};
 
@@ -26,7 +26,7 @@ pub fn with_sign(l: i64, size: i64) -> i64
 
 // The nearest whole number to n/d, a half up.
 pub fn nearest_size(n: u64, d: u64) -> u64
-    requires { ⌜ (n ≤ 8_000_000_000_000_000_000) × (0 < d) × (d ≤ 1_000_000_000_000_000_000) ⌝ }
+    requires { ⌜ (n ≤ mostNumerator) × (0 < d) × (d ≤ mostDivisor) ⌝ }
     ensures { λ r. ⌜ r ≡ nearestSize n d ⌝ }
 {
     (2 * n + d) / (2 * d)
@@ -34,7 +34,7 @@ pub fn nearest_size(n: u64, d: u64) -> u64
 
 // The nearest whole number to n/d, a half away from zero.
 pub fn nearest(n: i64, d: u64) -> i64
-    requires { ⌜ (natAbs n ≤ 8_000_000_000_000_000_000) × (0 < d) × (d ≤ 1_000_000_000_000_000_000) ⌝ }
+    requires { ⌜ (natAbs n ≤ mostNumerator) × (0 < d) × (d ≤ mostDivisor) ⌝ }
     ensures { λ r. ⌜ r ≡ nearest n d ⌝ }
 {
     with_sign(n, nearest_size(size(n), d) as i64)
@@ -50,7 +50,7 @@ pub fn between(u: i64, w: i64, t: u64, step: u64) -> i64
 
 // q = (s/100)², in 0.001, of s in 0.001″.
 pub fn q_of(s: u64) -> u64
-    requires { ⌜ s ≤ mostWord ⌝ }
+    requires { ⌜ s ≤ mostS ⌝ }
     ensures { λ r. ⌜ r ≡ qOf s ⌝ }
 {
     nearest_size(s * s, 10_000_000)
@@ -72,9 +72,9 @@ pub fn rise(v: u64, q: u64, c: i64) -> i64
     nearest((v * q) as i64 + c * 1_000_000, 10_000_000)
 }
 
-// t + e/K rounded toward zero, for e below K.
+// t + e/K rounded toward zero, for any K above e.
 pub fn toward_zero(t: i64, e: u64) -> i64
-    requires { ⌜ natAbs t < 2 ^ 62 ⌝ }
+    requires { ⌜ natAbs t ≤ mostNumerator ⌝ }
     ensures { λ r. ⌜ r ≡ towardZero t e ⌝ }
 {
     if 0 <= t {
@@ -106,7 +106,7 @@ pub fn reduction(p: u64, x: u64, d: i64) -> i64
 
 // The seconds past a latitude row, in 0.001″, where y0 gains gap over a span of 0.001″ and past of it lies below the reduced northing.
 pub fn seconds(span: u64, past: u64, gap: u64) -> u64
-    requires { ⌜ (span ≤ mostStep) × (past ≤ mostRise) × (0 < gap) × (gap ≤ mostRise) ⌝ }
+    requires { ⌜ (span ≤ mostStep) × (past ≤ mostGap) × (0 < gap) × (gap ≤ mostGap) ⌝ }
     ensures { λ r. ⌜ r ≡ seconds span past gap ⌝ }
 {
     nearest_size(span * past, gap)
@@ -138,7 +138,7 @@ pub fn convergence(m: u64, x: i64) -> i64
 
 // A difference over 60 seconds, scaled to its column's unit.
 pub fn per_second(scale: u64, difference: i64) -> i64
-    requires { ⌜ (scale ≤ 1_000) × (natAbs difference ≤ mostWord + mostWord) ⌝ }
+    requires { ⌜ (scale ≤ mostScale) × (natAbs difference ≤ mostWord + mostWord) ⌝ }
     ensures { λ r. ⌜ r ≡ perSecond scale difference ⌝ }
 {
     nearest((scale as i64) * difference, 60)

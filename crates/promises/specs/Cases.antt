@@ -1,10 +1,12 @@
 -- The worked figures of the Survey's sheets that are proved: each case has the figures that the definitions give, and those that are printed.
 use mathlib.Core.List.{List, [], _∷_}
+use Prim.Native.Nat.{_-_}
 use lib.IntN.{ℤ, pos, negℤ, _-ℤ_}
 use Rattle.figures.specs.Nearest.{withSign, nearest}
 use Rattle.figures.specs.Between.{between}
 use Rattle.figures.specs.Steps.{qOf, sizeOfX, rise, reduction, seconds, perSecond}
 
+-- What the definitions work, figure by figure, and what is printed, in the same units.
 pub record Case : Type 0 where
   pub worked : List ℤ
   pub printed : List ℤ
@@ -23,10 +25,10 @@ kahela = record {
   printed = pos 28_682_813 ∷ pos 95_595_105 ∷ [];
 }
 
--- Kahela back: y0 286,828.14, which is 2,368.30 ft above the row, whose next is 6,052.61 ft above it, returns 23.477″.
+-- Kahela back: y0 286,828.14 returns 23.477″, between the y0 of the same rows.
 unfoldable pub kahelaBack : Case
 kahelaBack = record {
-  worked = pos (seconds 60_000 236_830 605_261) ∷ [];
+  worked = pos (seconds 60_000 (28_682_814 - 28_445_984) (29_051_245 - 28_445_984)) ∷ [];
   printed = pos 23_477 ∷ [];
 }
 
@@ -55,7 +57,7 @@ naper = record {
   printed = pos 7_316 ∷ pos 7_315 ∷ [];
 }
 
--- Document 003, row 20°48′: H 94.879133, next 94.868706, so ΔH is 173.78 (the copy reads 173.71).
+-- Document 003, row 20°48′: H 94.879133, next 94.868706, so ΔH is 173.78 of its millionths (the copy reads 173.71).
 unfoldable pub row2048 : Case
 row2048 = record {
   worked = perSecond 100 (pos 94_879_133 -ℤ pos 94_868_706) ∷ [];
@@ -69,13 +71,14 @@ halfM = record {
   printed = pos 38_423 ∷ [];
 }
 
--- −0.9875 is −0.988 to three places, and so is a half way between the case sheet's a −0.988 and −0.987.
+-- −0.9875 to three places is −0.988 and not −0.987. The case sheet's a stands there at 21°30′30″, between −0.988 and −0.987.
 unfoldable pub halfA : Case
 halfA = record {
   worked = nearest (negℤ (pos 9_875)) 10 ∷ between (negℤ (pos 988)) (negℤ (pos 987)) 30_000 60_000 ∷ [];
   printed = negℤ (pos 988) ∷ negℤ (pos 988) ∷ [];
 }
 
--- The list. Cases of whole operations join it as these are built.
+-- The list. Still to join it, with the operations that they need: number 9 for the copy's 173.71, latitude 21°31′00.000″, and the first two points of the
+-- points program's listing.
 unfoldable pub starred : List Case
 starred = harvey ∷ kahela ∷ kahelaBack ∷ irish ∷ irishBack ∷ naper ∷ row2048 ∷ halfM ∷ halfA ∷ []

@@ -1,4 +1,4 @@
--- "First fault first": the first fault of a run of places, rows of a body or entries of the contents.
+-- The first fault of a run of places, which are the rows of a body or the entries of the contents, in rising order.
 use mathlib.Core.Bool.{cond}
 use Prim.Native.Nat.{ℕ, zero, suc}
 use lib.Dec.{eqb}

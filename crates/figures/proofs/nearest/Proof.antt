@@ -6,6 +6,7 @@ use mir.Syntax.{w64}
 use mir.Facts.{toZ-ofZ}
 use borrow.Author.Needs.{sfits-of}
 use Rattle.figures.specs.Nearest.{nearest}
+use Rattle.figures.specs.Ranges.{mostNumerator}
 use Rattle.figures.proofs.Holds.{Holds, held, held-size, size-below}
 use Rattle.figures.proofs.Rounding.{nearestSize-le}
 use Rattle.figures.proofs.nearest.Statement.{statement}
@@ -15,7 +16,7 @@ use Rattle.figures.proofs.nearest.Tie as tie
 size-is : (c : tie.After-size) → c .size .result ≡ natAbs (c .before .args .n)
 size-is c = rw (toZ-ofZ (c .before .fits .n)) at (c .size .ensures)
 
-quotient : (c : tie.After-nearest-size) → Holds w64 (c .nearest-size .result) (pos (c .nearest-size .result)) 8_000_000_000_000_000_000
+quotient : (c : tie.After-nearest-size) → Holds w64 (c .nearest-size .result) (pos (c .nearest-size .result)) mostNumerator
 quotient c =
     let n = c .before .size .result in
     held-size w64

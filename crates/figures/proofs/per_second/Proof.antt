@@ -6,14 +6,14 @@ use lib.IntN.{pos}
 use mir.Syntax.{w64}
 use mir.Val.{ofZ}
 use Rattle.figures.specs.Steps.{perSecond}
-use Rattle.figures.specs.Ranges.{mostWord}
+use Rattle.figures.specs.Ranges.{mostWord, mostScale}
 use Rattle.figures.proofs.Holds.{Holds, held, held-size, product-fits, product, size-most}
 use Rattle.figures.proofs.Rounding.{rounded}
 use Rattle.figures.proofs.per_second.Statement.{statement}
 use Rattle.figures.proofs.per_second.Tie as tie
 
 module _ (c : tie.Start) where
-  scale : Holds w64 (c .args .scale) (pos (c .args .scale)) 1_000
+  scale : Holds w64 (c .args .scale) (pos (c .args .scale)) mostScale
   scale = held-size w64 (c .pre .0) tt
 
   difference : Holds w64 (ofZ w64 (c .args .difference)) (c .args .difference) (mostWord + mostWord)

@@ -3,13 +3,13 @@ use native.Mathlib.Omega.{arith}
 use lib.Dec.{lit<, lit≤}
 use Prim.Native.Nat.{_*_, _≤_}
 use Rattle.figures.specs.Steps.{qOf}
-use Rattle.figures.specs.Ranges.{mostWord}
+use Rattle.figures.specs.Ranges.{mostS}
 use Rattle.figures.proofs.Sizes.{product-most}
 use Rattle.figures.proofs.q_of.Statement.{statement}
 use Rattle.figures.proofs.q_of.Tie as tie
 
-square-small : (c : tie.Start) → c .args .s * c .args .s ≤ mostWord * mostWord
-square-small c = product-most mostWord mostWord (c .pre) (c .pre)
+square-small : (c : tie.Start) → c .args .s * c .args .s ≤ mostS * mostS
+square-small c = product-most mostS mostS (c .pre) (c .pre)
 
 returns : tie.Need-returns
 unfolding qOf

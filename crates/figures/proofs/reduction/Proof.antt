@@ -13,7 +13,7 @@ use Rattle.figures.specs.Steps.{reduction}
 use Rattle.figures.specs.Wide.{towardZero}
 use Rattle.figures.specs.Ranges.{mostP, mostX, mostD}
 use Rattle.figures.proofs.Sizes.{product-most}
-use Rattle.figures.proofs.Holds.{Holds, held, held-size, held-literal, sum-fits, sum, product-fits, product, size-below, size-most}
+use Rattle.figures.proofs.Holds.{Holds, held, held-size, held-literal, sum-fits, sum, product-fits, product, size-most}
 use Rattle.figures.proofs.Rounding.{rounded}
 use Rattle.figures.proofs.Splitting.{size-toward, wide-nearest}
 use Rattle.figures.proofs.reduction.Statement.{statement}
@@ -86,7 +86,7 @@ add-t : tie.Need-add-t
 add-t c = sum-fits (whole-held c) (product (d c) (high c) tt) tt
 
 toward-zero-requires : tie.Need-toward-zero-requires
-toward-zero-requires c κs = size-below (sum (whole-held c) (product (d c) (high c) tt) tt) tt
+toward-zero-requires c κs = size-most (sum (whole-held c) (product (d c) (high c) tt) tt) tt
 
 nearest-requires : tie.Need-nearest-requires
 nearest-requires c κs = (size-most (dropped c) tt, lit< tt, lit≤ tt)

@@ -2,13 +2,13 @@
 use native.Mathlib.Omega.{arith}
 use Prim.Native.Nat.{_*_, _≤_}
 use Rattle.figures.specs.Steps.{seconds}
-use Rattle.figures.specs.Ranges.{mostStep, mostRise}
+use Rattle.figures.specs.Ranges.{mostStep, mostGap}
 use Rattle.figures.proofs.Sizes.{product-most}
 use Rattle.figures.proofs.seconds.Statement.{statement}
 use Rattle.figures.proofs.seconds.Tie as tie
 
-product-small : (c : tie.Start) → c .args .span * c .args .past ≤ mostStep * mostRise
-product-small c = product-most mostStep mostRise (c .pre .0) (c .pre .1)
+product-small : (c : tie.Start) → c .args .span * c .args .past ≤ mostStep * mostGap
+product-small c = product-most mostStep mostGap (c .pre .0) (c .pre .1)
 
 returns : tie.Need-returns
 unfolding seconds

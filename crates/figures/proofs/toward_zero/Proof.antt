@@ -1,17 +1,17 @@
 -- `figures::toward_zero` meets its contract. Assumes nothing.
-use native.Mathlib.Omega.{arith}
 use mathlib.Core.Path.{sym, ap, _∙_}
 use Prim.Native.Nat.{ℕ}
 use mir.Syntax.{w64}
 use mir.Val.{ofZ}
+use Rattle.figures.specs.Ranges.{mostNumerator}
 use Rattle.figures.specs.Wide.{towardZero}
 use Rattle.figures.proofs.Holds.{Holds, held, held-literal, sum-fits, sum}
 use Rattle.figures.proofs.Splitting.{toward-up, toward-exact, toward-next}
 use Rattle.figures.proofs.toward_zero.Statement.{statement}
 use Rattle.figures.proofs.toward_zero.Tie as tie
 
-t : (c : tie.Start) → Holds w64 (ofZ w64 (c .args .t)) (c .args .t) 4_611_686_018_427_387_903
-t c = held (c .fits .t) (omega arith)
+t : (c : tie.Start) → Holds w64 (ofZ w64 (c .args .t)) (c .args .t) mostNumerator
+t c = held (c .fits .t) c.pre
 
 returns : tie.Need-returns
 returns c =
