@@ -1,5 +1,5 @@
 -- Laws of reading between rows: at a row it is the row, and elsewhere it lies between the two rows, whatever the step. Assumes nothing.
-use mathlib.Core.Path.{_≡_, ap, _∙_}
+use mathlib.Core.Path.{_≡_, sym, ap, _∙_}
 use Prim.Native.Nat.{ℕ, _+_, _*_, _-_, _<_, _≤_}
 use native.Mathlib.Nat.{mul-add, mul-le-mul-right, le-trans}
 use native.Mathlib.Omega.{arith}
@@ -41,15 +41,17 @@ module _ (t step : ℕ) (inside : t ≤ step) where
   unfolding nearest withSign
   between-sizes u w = between-weighed (pos u) (pos w)
 
-  weight-most : (u w k : ℕ) → u ≤ k → w ≤ k → u * (step - t) + w * t ≤ k * step
-  weight-most u w k p q =
+  -- the two weights together are the step
+  whole-weight : (k : ℕ) → k * (step - t) + k * t ≡ k * step
+  whole-weight k =
       let split : (step - t) + t ≡ step = omega arith in
-      omega (arith, mul-le-mul-right (step - t) p, mul-le-mul-right t q, mul-add k (step - t) t, ap (λ (n : ℕ). k * n) split)
+      sym (mul-add k (step - t) t) ∙ ap (λ (n : ℕ). k * n) split
+
+  weight-most : (u w k : ℕ) → u ≤ k → w ≤ k → u * (step - t) + w * t ≤ k * step
+  weight-most u w k p q = omega (arith, whole-weight k, mul-le-mul-right (step - t) p, mul-le-mul-right t q)
 
   weight-least : (u w k : ℕ) → k ≤ u → k ≤ w → k * step ≤ u * (step - t) + w * t
-  weight-least u w k p q =
-      let split : (step - t) + t ≡ step = omega arith in
-      omega (arith, mul-le-mul-right (step - t) p, mul-le-mul-right t q, mul-add k (step - t) t, ap (λ (n : ℕ). k * n) split)
+  weight-least u w k p q = omega (arith, whole-weight k, mul-le-mul-right (step - t) p, mul-le-mul-right t q)
 
   module _ (positive : 0 < step) where
     -- the size is at most that of the rows' sizes, weighed alike
