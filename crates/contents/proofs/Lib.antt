@@ -1,0 +1,7 @@
+-- Laws of the contents. Other crates cite them.
+pub mod Limits
+pub mod Search
+pub mod Spans
+pub mod EachKind
+pub mod Passing
+pub mod OfFault

@@ -1,0 +1,45 @@
+-- What `within` and `sized` tell of the numbers. Assumes nothing.
+use mathlib.Core.Path.{_≡_, refl}
+use mathlib.Core.Bool.{Bool, true, false, not, _&&_}
+use mathlib.Core.List.{List}
+use Prim.Native.Nat.{ℕ, _%_, _≤_, _<_}
+use native.Mathlib.Omega.{arith}
+use lib.Dec.{leb, eqb}
+use lib.ListN.{length}
+use borrow.Author.Tests.{leb-true, eqb-true, not-true, not-false}
+use Rattle.contents.specs.Layout.{leastBytes, mostBytes, lastKind}
+use Rattle.contents.specs.Contents.{within, sized}
+
+both : (a b : Bool) → (a && b) ≡ true → (a ≡ true) × (b ≡ true)
+both true b e = (refl, e)
+both false b e = (e, cc)
+
+pub within-true : (least n most : ℕ) → within least n most ≡ true → (least ≤ n) × (n ≤ most)
+unfolding within
+within-true least n most e =
+    let h = both (leb least n) (leb n most) e in
+    (leb-true least n (h .0), leb-true n most (h .1))
+
+-- a kind that was found among the kinds has its place in the tables
+pub known-below : (kind : ℕ) (f : Bool) → f ≡ within 1 kind lastKind → not f ≡ false → kind < 7
+known-below kind f t p = let h : within 1 kind lastKind ≡ true = cc (not-false f p) in omega (arith, within-true 1 kind lastKind h)
+
+-- ---- the length, in the shape of the code's test
+module _ (s : List ℕ) (f : Bool) (t : f ≡ within leastBytes (length s) mostBytes) where
+  pub sized-no : not f ≡ true → false ≡ sized s
+  unfolding sized
+  sized-no x = cc (not-true f x)
+
+  pub sized-yes : not f ≡ false → eqb (length s % 4) 0 ≡ sized s
+  unfolding sized
+  sized-yes x = cc (not-false f x)
+
+pub sized-true : (s : List ℕ) → sized s ≡ true → (leastBytes ≤ length s) × (length s ≤ mostBytes) × (length s % 4 ≡ 0)
+unfolding sized
+sized-true s e =
+    let h = both (within leastBytes (length s) mostBytes) (eqb (length s % 4) 0) e in
+    let l = within-true leastBytes (length s) mostBytes (h .0) in
+    (l .0, l .1, eqb-true (length s % 4) 0 (h .1))
+
+pub long : (s : List ℕ) (f : Bool) → f ≡ sized s → not f ≡ false → leastBytes ≤ length s
+long s f t p = sized-true s (let h : sized s ≡ true = cc (not-false f p) in h) .0

@@ -1,0 +1,23 @@
+-- A first fault of the entries as the check's answer, in the shape of the code's needs: f is the code's where the definition has g. Assumes nothing.
+use mathlib.Core.Path.{_≡_, ap}
+use mathlib.Core.List.{List}
+use Prim.Native.Nat.{ℕ, _≤_}
+use Rattle.words.specs.declared.Fault.{Fault}
+use Rattle.words.specs.Ladder.{orElse}
+use Rattle.words.specs.Faults.{firstFault}
+use Rattle.words.proofs.FirstFault.{place-small}
+use Rattle.words.proofs.Refusals.{refused, passed-on}
+use Rattle.contents.specs.declared.Verdict.{Verdict}
+use Rattle.contents.specs.Layout.{entryCount}
+use Rattle.contents.specs.Contents.{numberOf, inEntries, entryFault}
+
+module _ (f g : Fault) (y : Verdict) (e : f ≡ g) where
+  pub refused-in : (f .number ≡ 0 → ⊥) → inEntries f ≡ orElse numberOf (inEntries g) y
+  refused-in n = refused numberOf (inEntries g) y (inEntries f) (ap inEntries e) n
+
+  pub passed-in : (z : Verdict) → f .number ≡ 0 → z ≡ y → z ≡ orElse numberOf (inEntries g) y
+  passed-in z n q = passed-on numberOf (inEntries g) y (inEntries f) (ap inEntries e) z n q
+
+-- its place is an entry's
+pub entry-place : (s : List ℕ) (f : Fault) → f ≡ firstFault (entryFault s) entryCount 0 → f .place ≤ entryCount
+entry-place s f e = rw e (place-small (entryFault s) entryCount 0)

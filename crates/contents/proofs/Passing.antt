@@ -1,0 +1,132 @@
+-- What a sheet whose contents have no fault has: each kind has its rows, within its limits, and each body lies within the sheet. Assumes nothing.
+use mathlib.Core.Path.{_≡_, refl, sym, ap, _∙_}
+use mathlib.Core.Bool.{Bool, true, false, not, cond}
+use mathlib.Core.List.{List}
+use Prim.Native.Nat.{ℕ, zero, suc, _+_, _*_, _-_, _%_, _<_, _≤_}
+use native.Mathlib.Nat.{zero-add, suc-add}
+use native.Mathlib.Omega.{arith}
+use lib.Dec.{eqb}
+use lib.ListN.{length}
+use borrow.Author.Tests.{eqb-true, eqb-false, not-true}
+use Rattle.words.specs.Words.{unsignedAt}
+use Rattle.words.specs.Ladder.{need, orElse}
+use Rattle.words.specs.Faults.{firstFault}
+use Rattle.words.proofs.FirstFault.{all-pass}
+use Rattle.contents.specs.declared.Verdict.{Verdict}
+use Rattle.contents.specs.Layout.{entryCount, lastKind, firstBody, leastBytes, mostBytes, widthOf, leastRows, mostRows}
+use Rattle.contents.specs.Entries.{kindAt, startAt, rowsAt, spanAt, named, dueAt, entryOf, startOf, rowsOf}
+use Rattle.contents.specs.Contents.{within, sized, ends, verdict, numberOf, inEntries, entryFault, contentsOf}
+use Rattle.contents.proofs.Limits.{within-true, sized-true}
+use Rattle.contents.proofs.EachKind.{each-kind}
+
+-- a rung that was passed: its test holds, and the rest has no fault
+rung : (b : Bool) (x rest : ℕ) → (x ≡ 0 → ⊥) → need b x rest ≡ 0 → (b ≡ true) × (rest ≡ 0)
+unfolding need
+rung true x rest n e = (refl, e)
+rung false x rest n e = absurd (n e)
+
+-- ---- an entry
+pub record Entry (s : List ℕ) (e : ℕ) : Type 0 where
+  pub low : 1 ≤ kindAt s e
+  pub high : kindAt s e ≤ lastKind
+  pub fresh : named s (kindAt s e) e ≡ false
+  pub least : leastRows (kindAt s e) ≤ rowsAt s e
+  pub most : rowsAt s e ≤ mostRows (kindAt s e)
+  pub start : startAt s e ≡ dueAt s e
+
+pub entry : (s : List ℕ) (e : ℕ) → entryFault s e ≡ 0 → Entry s e
+unfolding entryFault
+entry s e z =
+    let a = rung _ 2 _ (λ q. omega arith) z in
+    let b = rung _ 3 _ (λ q. omega arith) (a .1) in
+    let c = rung _ 4 _ (λ q. omega arith) (b .1) in
+    let d = rung _ 5 _ (λ q. omega arith) (c .1) in
+    let k = within-true _ _ _ (a .0) in
+    let r = within-true _ _ _ (c .0) in
+    record { low = k .0; high = k .1; fresh = not-true _ (b .0); least = r .0; most = r .1; start = eqb-true _ _ (d .0) }
+
+-- ---- the whole of the contents
+pub record Passed (s : List ℕ) : Type 0 where
+  pub long : leastBytes ≤ length s
+  pub short : length s ≤ mostBytes
+  pub whole : length s % 4 ≡ 0
+  pub count : unsignedAt s 0 ≡ entryCount
+  pub entries : (e : ℕ) → e < entryCount → Entry s e
+  pub end : 4 * dueAt s entryCount ≡ length s
+
+pub passed : (s : List ℕ) → contentsOf s .number ≡ 0 → Passed s
+unfolding contentsOf need orElse
+passed s z = pick (sized s) (eqb (unsignedAt s 0) entryCount) (eqb (firstFault (entryFault s) entryCount 0 .number) 0) (ends s) refl refl refl refl z
+  where
+    pick : (a b c d : Bool) → sized s ≡ a → eqb (unsignedAt s 0) entryCount ≡ b → eqb (firstFault (entryFault s) entryCount 0 .number) 0 ≡ c → ends s ≡ d
+        → need a (verdict 1 0 0) (need b (verdict 2 0 0) (cond c (need d (verdict 5 0 7) (verdict 0 0 0)) (inEntries (firstFault (entryFault s) entryCount 0)))) .number ≡ 0
+        → Passed s
+    pick false b c d l w p q z = absurd (omega arith)
+    pick true false c d l w p q z = absurd (omega arith)
+    pick true true false d l w p q z = absurd (eqb-false (firstFault (entryFault s) entryCount 0 .number) 0 p z)
+    pick true true true false l w p q z = absurd (omega arith)
+    pick true true true true l w p q z =
+        let n = sized-true s l in
+        record {
+          long = n .0;
+          short = n .1;
+          whole = n .2;
+          count = eqb-true (unsignedAt s 0) entryCount w;
+          entries = λ e h. entry s e (rw zero-add at (all-pass (entryFault s) entryCount 0 (eqb-true (firstFault (entryFault s) entryCount 0 .number) 0 p) e h));
+          end = eqb-true (4 * dueAt s entryCount) (length s) q;
+        }
+
+-- ---- the end, in the shape of the code's needs
+module _ (s : List ℕ) (none : firstFault (entryFault s) entryCount 0 .number ≡ 0) where
+  each : (e : ℕ) → e < entryCount → Entry s e
+  each e h = entry s e (rw zero-add at (all-pass (entryFault s) entryCount 0 none e h))
+
+  pub last-known : kindAt s 5 < 7
+  last-known = let k : kindAt s 5 ≤ lastKind = each 5 (omega arith) .high in omega arith
+
+  pub end-is : (a b : ℕ) (f : Bool) → a ≡ startAt s 5 → b ≡ spanAt s 5 → f ≡ eqb (4 * (a + b)) (length s) → f ≡ ends s
+  unfolding dueAt
+  end-is a b f p q e =
+      let due : a + b ≡ dueAt s entryCount = rw (q, p ∙ each 5 (omega arith) .start) in
+      e ∙ ap (λ (n : ℕ). eqb (4 * n) (length s)) due
+
+-- ---- each kind's body
+-- where a body is due, no later one is due before
+due-rises : (s : List ℕ) (e d : ℕ) → dueAt s e ≤ dueAt s (d + e)
+unfolding dueAt
+due-rises s e zero = omega (arith, ap (dueAt s) (zero-add e))
+due-rises s e (suc d) = omega (arith, due-rises s e d, ap (dueAt s) (suc-add d e))
+
+module _ (s : List ℕ) (z : contentsOf s .number ≡ 0) (k : ℕ) (l : 1 ≤ k) (h : k ≤ lastKind) where
+  -- the entry that names it
+  pub its-entry : (entryOf s k entryCount < entryCount) × (kindAt s (entryOf s k entryCount) ≡ k)
+  its-entry =
+      let p = passed s z in
+      each-kind s (λ e h. (p .entries e h .low, p .entries e h .high)) (λ e h. p .entries e h .fresh) k l h
+
+  pub rows-least : leastRows k ≤ rowsOf s k
+  rows-least = rw (its-entry .1) at (passed s z .entries (entryOf s k entryCount) (its-entry .0) .least)
+
+  pub rows-most : rowsOf s k ≤ mostRows k
+  rows-most = rw (its-entry .1) at (passed s z .entries (entryOf s k entryCount) (its-entry .0) .most)
+
+  -- it starts after the contents
+  pub body-after : firstBody ≤ startOf s k
+  body-after = after (entryOf s k entryCount) (its-entry .0)
+    where
+      after : (e : ℕ) → e < entryCount → firstBody ≤ startAt s e
+      after e lt =
+          let first : dueAt s 0 ≡ firstBody = unfold dueAt in refl in
+          let zero-on : e + 0 ≡ e = omega arith in
+          omega (arith, passed s z .entries e lt .start, first, rw zero-on at (due-rises s 0 e))
+
+  -- and ends within the sheet
+  pub body-within : 4 * (startOf s k + rowsOf s k * widthOf k) ≤ length s
+  body-within = inside (entryOf s k entryCount) (its-entry .0) (its-entry .1)
+    where
+      inside : (e : ℕ) → e < entryCount → kindAt s e ≡ k → 4 * (startAt s e + rowsAt s e * widthOf k) ≤ length s
+      inside e lt q =
+          let p = passed s z in
+          let due : startAt s e + rowsAt s e * widthOf k ≡ dueAt s (suc e) = unfold dueAt in cc (p .entries e lt .start) in
+          let six : 5 - e + suc e ≡ entryCount = omega arith in
+          omega (arith, p .end, rw six at (due-rises s (suc e) (5 - e)))

@@ -1,0 +1,43 @@
+-- The words of a body: few enough to add up, and the next body is due where this one ends. Assumes nothing.
+use mathlib.Core.Path.{_≡_, refl}
+use mathlib.Core.Bool.{Bool, true, false}
+use mathlib.Core.List.{List}
+use Prim.Native.Nat.{ℕ, zero, suc, _+_, _*_, _<_, _≤_}
+use native.Mathlib.Nat.{mul-le-mul-left}
+use native.Mathlib.Numerals.{add-one}
+use native.Mathlib.Omega.{arith}
+use lib.Dec.{lit≤}
+use Rattle.words.specs.Ladder.{need}
+use Rattle.contents.specs.Layout.{widthOf, lastKind}
+use Rattle.contents.specs.Entries.{kindAt, rowsAt, spanAt, dueAt}
+use Rattle.contents.specs.Contents.{within, entryFault}
+use Rattle.contents.proofs.Limits.{within-true}
+
+pub width-small : (kind : ℕ) → widthOf kind ≤ 8
+width-small zero = lit≤ tt
+width-small (suc zero) = lit≤ tt
+width-small (suc (suc zero)) = lit≤ tt
+width-small (suc (suc (suc zero))) = lit≤ tt
+width-small (suc (suc (suc (suc zero)))) = lit≤ tt
+width-small (suc (suc (suc (suc (suc zero))))) = lit≤ tt
+width-small (suc (suc (suc (suc (suc (suc zero)))))) = lit≤ tt
+width-small (suc (suc (suc (suc (suc (suc (suc kind))))))) = lit≤ tt
+
+pub span-small : (kind rows width : ℕ) → width ≡ widthOf kind → rows < 4_294_967_296 → rows * width < 34_359_738_368
+span-small kind rows width e h = rw e (omega (arith, mul-le-mul-left rows (width-small kind)))
+
+pub span-is : (s : List ℕ) (e kind rows width : ℕ) → kind ≡ kindAt s e → rows ≡ rowsAt s e → width ≡ widthOf kind → rows * width ≡ spanAt s e
+span-is s e kind rows width k r w = cc
+
+pub due-next : (s : List ℕ) (e due span : ℕ) → due ≡ dueAt s e → span ≡ spanAt s e → due + span ≡ dueAt s (e + 1)
+unfolding dueAt
+due-next s e due span d p = rw add-one (cc)
+
+-- an entry with no fault names a kind that there is
+pub fault-known : (s : List ℕ) (e x : ℕ) → x ≡ entryFault s e → x ≡ 0 → kindAt s e < 7
+unfolding entryFault need
+fault-known s e x p z = pick (within 1 (kindAt s e) lastKind) refl
+  where
+    pick : (k : Bool) → within 1 (kindAt s e) lastKind ≡ k → kindAt s e < 7
+    pick true q = omega (arith, within-true 1 (kindAt s e) lastKind q)
+    pick false q = let two : _≡_ {A = ℕ} 2 0 = cc in absurd (omega arith)
