@@ -13,7 +13,7 @@ ghost use Rattle.contents.specs.Contents.{within, entryFault, sized, end
 // The check's answer. A pass is 0 0 0; a fault of length, word 0 or contents has kind 0 and, as row, the entry's place counted from 1.
 pub struct Verdict {
     pub number: u32,
-    pub kind: u32,
+    pub kind: usize,
     pub row: usize,
 }
 

@@ -3,7 +3,7 @@ use mathlib.Core.Path.{_≡_, sym, _∙_}
 use mathlib.Core.Bool.{Bool, true, false, not}
 use Prim.Native.Nat.{ℕ, _<_, _≤_}
 use borrow.Author.Tests.{not-true, not-false, lt-ltb, le-ltb, eq-eqb, ne-eqb}
-use Rattle.words.specs.Ladder.{need, whereBelow, orElse}
+use Rattle.words.specs.Ladder.{need, whereBelow, whereIs, orElse}
 
 -- `if !f { return x; }`: the test failed, or it passed and y is the rest's answer
 module _ {A : Type 0} (t f : Bool) where
@@ -33,6 +33,16 @@ module _ {A : Type 0} (a b : ℕ) where
   pub beyond : (x y z : A) → b ≤ a → z ≡ y → z ≡ whereBelow a b x y
   unfolding whereBelow
   beyond x y z h e = rw (le-ltb a b h) e
+
+-- `if a == b { return x; }`
+module _ {A : Type 0} (a b : ℕ) where
+  pub is : (x y z : A) → a ≡ b → z ≡ x → z ≡ whereIs a b x y
+  unfolding whereIs
+  is x y z h e = rw (eq-eqb a b h) e
+
+  pub is-not : (x y z : A) → (a ≡ b → ⊥) → z ≡ y → z ≡ whereIs a b x y
+  unfolding whereIs
+  is-not x y z h e = rw (ne-eqb a b h) e
 
 -- one answer after another: r is the code's where the definition has x
 module _ {A : Type 0} (number : A → ℕ) (x y r : A) (e : r ≡ x) where

@@ -1,0 +1,38 @@
+-- The check's answer: the contents first, then the bodies.
+use mathlib.Core.List.{List}
+use Prim.Native.Nat.{ℕ, zero, suc}
+use Rattle.words.specs.declared.Fault.{Fault}
+use Rattle.words.specs.Ladder.{orElse, whereIs}
+use Rattle.words.specs.Faults.{firstFault}
+use Rattle.contents.specs.declared.Verdict.{Verdict}
+use Rattle.contents.specs.Layout.{lastKind, zone, latitude, longitude, northing, easting}
+use Rattle.contents.specs.Entries.{rowsOf, bodyOf}
+use Rattle.contents.specs.Contents.{verdict, numberOf, contentsOf}
+use Rattle.bodies.specs.Rows.{zoneFault, latitudeFault, longitudeFault, northingFault, eastingFault, scaleFault}
+
+-- The first fault of the n rows of a body b of the kind, "row upward". "Rows count from 0."
+unfoldable pub bodyFault : ℕ → List ℕ → ℕ → Fault
+bodyFault kind b n =
+    whereIs kind zone (firstFault (zoneFault b) n 0)
+    (whereIs kind latitude (firstFault (latitudeFault b n) n 0)
+    (whereIs kind longitude (firstFault (longitudeFault b n) n 0)
+    (whereIs kind northing (firstFault (northingFault b) n 0)
+    (whereIs kind easting (firstFault (eastingFault b) n 0)
+    (firstFault (scaleFault b) n 0)))))
+
+-- The first fault of the sheet's body of the kind.
+abbrev pub faultOf : List ℕ → ℕ → Fault
+faultOf s kind = bodyFault kind (bodyOf s kind) (rowsOf s kind)
+
+-- A body's fault as the check's answer: "number, kind, row".
+abbrev pub inKind : ℕ → Fault → Verdict
+inKind kind f = verdict (f .number) kind (f .place)
+
+-- "then bodies by kind 1 to 6 and row upward": of the n kinds from k on, the first whose body has a fault. "A pass is 0 0 0."
+unfoldable pub bodiesOf : List ℕ → ℕ → ℕ → Verdict
+bodiesOf s zero k = verdict 0 0 0
+bodiesOf s (suc n) k = orElse numberOf (inKind k (faultOf s k)) (bodiesOf s n (suc k))
+
+-- "Order: 1; word 0; each entry by 2, 3, 4, start; the end; then bodies"
+unfoldable pub checkOf : List ℕ → Verdict
+checkOf s = orElse numberOf (contentsOf s) (bodiesOf s lastKind 1)

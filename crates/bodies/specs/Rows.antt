@@ -1,0 +1,79 @@
+-- The faults of a row, kind by kind. b is the body: the part of the sheet that holds its n rows; i is the row, counted from 0. Each fault is a number, 0 for none.
+-- The figures stand in the order of 01's table, with its units and ranges; "row 0 is 0" is a range too, and number 6.
+use mathlib.Core.Bool.{Bool, true}
+use mathlib.Core.List.{List}
+use Prim.Native.Nat.{ℕ, _+_, _*_}
+use lib.IntN.{ℤ, pos, negℤ}
+use Rattle.words.specs.Words.{wordAt}
+use Rattle.words.specs.Ladder.{need, whereBelow}
+use Rattle.rules.specs.declared.Figures.{Figures}
+use Rattle.rules.specs.declared.Differences.{Differences}
+use Rattle.rules.specs.Limits.{inRange, rises}
+use Rattle.rules.specs.Latitude.{figuresInRange, withinBounds, differencesOf, noDifferences, sameDifferences}
+
+-- The figure is 0 in row 0; in a later row it may be any.
+unfoldable pub zeroFirst : ℤ → ℕ → Bool
+zeroFirst x i = whereBelow 0 i true (inRange (pos 0) x (pos 0))
+
+-- "1 zone": "central meridian (0.001″); false easting C (0.01 ft)", "6,000,000 to 642,000,000; 0 to 100,000,000"
+unfoldable pub zoneFault : List ℕ → ℕ → ℕ
+zoneFault b i =
+    need (inRange (pos 6_000_000) (wordAt b (2 * i)) (pos 642_000_000)) 6
+    (need (inRange (pos 0) (wordAt b (2 * i + 1)) (pos 100_000_000)) 6
+    0)
+
+-- "2 latitude": "minute; y0 (0.01 ft); Δy (0.00001); H (0.000001); ΔH (10⁻⁸); V (0.000001); ΔV (10⁻⁸); a (0.001)"
+abbrev pub minuteAt : List ℕ → ℕ → ℤ
+minuteAt b i = wordAt b (8 * i)
+
+unfoldable pub figuresAt : List ℕ → ℕ → Figures
+figuresAt b i = record { y0 = wordAt b (8 * i + 1); h = wordAt b (8 * i + 3); v = wordAt b (8 * i + 5); a = wordAt b (8 * i + 7) }
+
+unfoldable pub differencesAt : List ℕ → ℕ → Differences
+differencesAt b i = record { y = wordAt b (8 * i + 2); h = wordAt b (8 * i + 4); v = wordAt b (8 * i + 6) }
+
+-- "in each row 6, 7, 8, 9, where 7 to 9 look at the next row": 6 "a figure outside its range", "minute 0 to 5,400" and the four figures; 7 "next minute not one
+-- more"; 8 "a row difference outside its bounds"; 9 "Δy, ΔH or ΔV not as stated". "In the last row all three are 0."
+unfoldable pub latitudeFault : List ℕ → ℕ → ℕ → ℕ
+latitudeFault b n i =
+    need (inRange (pos 0) (minuteAt b i) (pos 5_400)) 6
+    (need (figuresInRange (figuresAt b i)) 6
+    (whereBelow (i + 1) n
+    (need (rises (minuteAt b i) (minuteAt b (i + 1)) (pos 1) (pos 1)) 7
+    (need (withinBounds (figuresAt b i) (figuresAt b (i + 1))) 8
+    (need (sameDifferences (differencesAt b i) (differencesOf (figuresAt b i) (figuresAt b (i + 1)))) 9
+    0)))
+    (need (sameDifferences (differencesAt b i) noDifferences) 9
+    0)))
+
+-- "3 longitude": "b (0.001); c (0.001)", "b ±20,000, c ±2,000; row 0 both 0"; "Next b's differ by at most 1,000."
+unfoldable pub longitudeFault : List ℕ → ℕ → ℕ → ℕ
+longitudeFault b n i =
+    need (inRange (negℤ (pos 20_000)) (wordAt b (2 * i)) (pos 20_000)) 6
+    (need (inRange (negℤ (pos 2_000)) (wordAt b (2 * i + 1)) (pos 2_000)) 6
+    (need (zeroFirst (wordAt b (2 * i)) i) 6
+    (need (zeroFirst (wordAt b (2 * i + 1)) i) 6
+    (whereBelow (i + 1) n
+    (need (rises (wordAt b (2 * i)) (wordAt b (2 * i + 2)) (negℤ (pos 1_000)) (pos 1_000)) 8
+    0)
+    0))))
+
+-- "4 northing": "P (0.00001); M (10⁻⁷)", "0 to 1,000,000; 0 to 1,000,000"
+unfoldable pub northingFault : List ℕ → ℕ → ℕ
+northingFault b i =
+    need (inRange (pos 0) (wordAt b (2 * i)) (pos 1_000_000)) 6
+    (need (inRange (pos 0) (wordAt b (2 * i + 1)) (pos 1_000_000)) 6
+    0)
+
+-- "5 easting": "d (0.01 ft)", "±100; row 0 is 0"
+unfoldable pub eastingFault : List ℕ → ℕ → ℕ
+eastingFault b i =
+    need (inRange (negℤ (pos 100)) (wordAt b i) (pos 100)) 6
+    (need (zeroFirst (wordAt b i) i) 6
+    0)
+
+-- "6 scale": "k (10⁻⁷)", "9,990,000 to 10,010,000"
+unfoldable pub scaleFault : List ℕ → ℕ → ℕ
+scaleFault b i =
+    need (inRange (pos 9_990_000) (wordAt b i) (pos 10_010_000)) 6
+    0

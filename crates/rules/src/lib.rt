@@ -1,0 +1,122 @@
+// The rules of a sheet's figures, as functions of the figures, which the check and a correction call alike.
+ghost use mathlib.Core.Path.{_≡_};
+ghost use Prim.Native.Nat.{_≤_};
+ghost use lib.IntN.{_-ℤ_};
+ghost use Rattle.figures.specs.Ranges.{mostScale};
+ghost use Rattle.figures.specs.Steps.{perSecond};
+ghost use Rattle.rules.specs.Limits.{inRange, rises, sameAs};
+ghost use Rattle.rules.specs.Latitude.{figuresInRange, withinBounds, differencesOf, noDifferences, sameDifferences};
+
+// The figures of a latitude row that a correction gives: y0 (0.01 ft), H (0.000001), V (0.000001), a (0.001).
+pub struct Figures {
+    pub y0: i32,
+    pub h: i32,
+    pub v: i32,
+    pub a: i32,
+}
+
+// The differences of a latitude row: Δy (0.00001), ΔH (10⁻⁸), ΔV (10⁻⁸). Of figures that are out of range they may pass 32 bits.
+pub struct Differences {
+    pub y: i64,
+    pub h: i64,
+    pub v: i64,
+}
+
+// Whether x is from least to most.
+pub fn in_range(least: i32, x: i32, most: i32) -> bool
+    ensures { λ r. ⌜ r ≡ inRange least x most ⌝ }
+{
+    if x < least {
+        return false;
+    }
+    x <= most
+}
+
+// Whether a row's figure x rises to the next row's by least to most.
+pub fn rises(x: i32, next: i32, least: i32, most: i32) -> bool
+    ensures { λ r. ⌜ r ≡ rises x next least most ⌝ }
+{
+    let rise = (next as i64) - (x as i64);
+    if rise < (least as i64) {
+        return false;
+    }
+    rise <= (most as i64)
+}
+
+// Whether x is y.
+fn same_as(x: i64, y: i64) -> bool
+    ensures { λ r. ⌜ r ≡ sameAs x y ⌝ }
+{
+    x == y
+}
+
+// Whether a latitude row's figures are in their ranges.
+pub fn figures_in_range(f: Figures) -> bool
+    ensures { λ r. ⌜ r ≡ figuresInRange f ⌝ }
+{
+    if !in_range(0, f.y0, 999_999_999) {
+        return false;
+    }
+    if !in_range(30_000_000, f.h, 102_000_000) {
+        return false;
+    }
+    if !in_range(0, f.v, 1_400_000) {
+        return false;
+    }
+    in_range(-2_000, f.a, 2_000)
+}
+
+// Whether a latitude row's figures are within their bounds with the next row's.
+pub fn within_bounds(f: Figures, next: Figures) -> bool
+    ensures { λ r. ⌜ r ≡ withinBounds f next ⌝ }
+{
+    if !rises(f.y0, next.y0, 600_000, 615_000) {
+        return false;
+    }
+    if !rises(next.h, f.h, 1, 50_000) {
+        return false;
+    }
+    if !rises(f.v, next.v, -1_000, 1_000) {
+        return false;
+    }
+    rises(f.a, next.a, -10, 10)
+}
+
+// The difference from x to next, over 60 seconds, scaled to its column's unit.
+fn over_minute(scale: u64, x: i32, next: i32) -> i64
+    requires { ⌜ scale ≤ mostScale ⌝ }
+    ensures { λ r. ⌜ r ≡ perSecond scale (next -ℤ x) ⌝ }
+{
+    figures::per_second(scale, (next as i64) - (x as i64))
+}
+
+// The differences of a row from its figures and the next row's.
+pub fn differences_of(f: Figures, next: Figures) -> Differences
+    ensures { λ r. ⌜ r ≡ differencesOf f next ⌝ }
+{
+    Differences {
+        y: over_minute(1_000, f.y0, next.y0),
+        h: over_minute(100, next.h, f.h),
+        v: over_minute(100, f.v, next.v),
+    }
+}
+
+// The differences of the last row.
+pub fn no_differences() -> Differences
+    ensures { λ r. ⌜ r ≡ noDifferences ⌝ }
+{
+    Differences { y: 0, h: 0, v: 0 }
+}
+
+// Whether the differences e are those of d.
+pub fn same_differences(e: Differences, d: Differences) -> bool
+    ensures { λ r. ⌜ r ≡ sameDifferences e d ⌝ }
+{
+    if !same_as(e.y, d.y) {
+        return false;
+    }
+    if !same_as(e.h, d.h) {
+        return false;
+    }
+    same_as(e.v, d.v)
+}
