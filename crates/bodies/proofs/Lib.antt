@@ -1,3 +1,7 @@
 -- Laws of the bodies and of the check. Other crates cite them.
+pub mod ByRow
 pub mod Parts
 pub mod ByKind
+pub mod PassingRows
+pub mod Sound
+pub mod PassingFigures

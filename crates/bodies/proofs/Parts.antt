@@ -7,14 +7,14 @@ use lib.ListN.{length, take, drop, length-take, length-drop}
 use mir.Syntax.{w64}
 use mir.Val.{Fits}
 use Rattle.words.specs.declared.Fault.{Fault}
-use Rattle.words.specs.Parts.{partOf}
+use Rattle.words.specs.Faults.{firstFault}
 use Rattle.words.proofs.PartWords.{part-is}
 use Rattle.contents.specs.declared.Place.{Place}
 use Rattle.contents.specs.Layout.{lastKind, leastBytes, mostBytes, widthOf}
 use Rattle.contents.specs.Entries.{startOf, rowsOf, bodyOf, placeOf}
 use Rattle.contents.specs.Contents.{contentsOf}
 use Rattle.contents.proofs.Passing.{passed, body-within}
-use Rattle.bodies.specs.Check.{bodyFault, faultOf}
+use Rattle.bodies.specs.Check.{rowFault, faultOf}
 
 -- ---- rows enough, once the kind is known
 module _ (kind n size : ℕ) (h : 4 * (n * widthOf kind) ≤ size) where
@@ -71,5 +71,8 @@ module _ (s : List ℕ) (kind : ℕ) (z : contentsOf s .number ≡ 0) (l : 1 ≤
         let same : p .rows * widthOf kind ≡ p .rows * width = rw w in
         simp (length-take, length-drop) (omega (arith, part-within, same))
 
-    pub part-fault : (r : Fault) → r ≡ bodyFault kind (take (4 * p .start + 4 * (p .rows * width) - 4 * p .start) (drop (4 * p .start) s)) (p .rows) → r ≡ faultOf s kind
-    part-fault r q = q ∙ ap (λ (b : List ℕ). bodyFault kind b (p .rows)) (part-is s (p .start) (p .rows * width)) ∙ rw (e, w)
+    pub part-fault : (r : Fault)
+        → r ≡ firstFault (rowFault kind (take (4 * p .start + 4 * (p .rows * width) - 4 * p .start) (drop (4 * p .start) s)) (p .rows)) (p .rows) 0
+        → r ≡ faultOf s kind
+    part-fault r q =
+        q ∙ ap (λ (b : List ℕ). firstFault (rowFault kind b (p .rows)) (p .rows) 0) (part-is s (p .start) (p .rows * width)) ∙ rw (e, w)

@@ -10,19 +10,19 @@ use Rattle.contents.specs.Entries.{rowsOf, bodyOf}
 use Rattle.contents.specs.Contents.{verdict, numberOf, contentsOf}
 use Rattle.bodies.specs.Rows.{zoneFault, latitudeFault, longitudeFault, northingFault, eastingFault, scaleFault}
 
--- The first fault of the n rows of a body b of the kind, "row upward". "Rows count from 0."
-unfoldable pub bodyFault : ℕ → List ℕ → ℕ → Fault
-bodyFault kind b n =
-    whereIs kind zone (firstFault (zoneFault b) n 0)
-    (whereIs kind latitude (firstFault (latitudeFault b n) n 0)
-    (whereIs kind longitude (firstFault (longitudeFault b n) n 0)
-    (whereIs kind northing (firstFault (northingFault b) n 0)
-    (whereIs kind easting (firstFault (eastingFault b) n 0)
-    (firstFault (scaleFault b) n 0)))))
+-- The number of the fault of row i of a body b of the kind, which has n rows.
+unfoldable pub rowFault : ℕ → List ℕ → ℕ → ℕ → ℕ
+rowFault kind b n i =
+    whereIs kind zone (zoneFault b i)
+    (whereIs kind latitude (latitudeFault b n i)
+    (whereIs kind longitude (longitudeFault b n i)
+    (whereIs kind northing (northingFault b i)
+    (whereIs kind easting (eastingFault b i)
+    (scaleFault b i)))))
 
--- The first fault of the sheet's body of the kind.
+-- The first fault of the sheet's body of the kind, "row upward". "Rows count from 0."
 abbrev pub faultOf : List ℕ → ℕ → Fault
-faultOf s kind = bodyFault kind (bodyOf s kind) (rowsOf s kind)
+faultOf s kind = firstFault (rowFault kind (bodyOf s kind) (rowsOf s kind)) (rowsOf s kind) 0
 
 -- A body's fault as the check's answer: "number, kind, row".
 abbrev pub inKind : ℕ → Fault → Verdict

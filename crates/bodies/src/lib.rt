@@ -14,7 +14,7 @@ ghost use Rattle.contents.specs.Contents.{contentsOf};
 ghost use Rattle.rules.specs.Limits.{inRange, rises};
 ghost use Rattle.rules.specs.Latitude.{figuresInRange, withinBounds, differencesOf, noDifferences, sameDifferences};
 ghost use Rattle.bodies.specs.Rows.{zeroFirst, minuteAt, figuresAt, differencesAt, zoneFault, latitudeFault, longitudeFault, northingFault, eastingFault, scaleFault};
-ghost use Rattle.bodies.specs.Check.{bodyFault, faultOf, checkOf};
+ghost use Rattle.bodies.specs.Check.{rowFault, faultOf, checkOf};
 
 // Whether word at is from least to most.
 fn word_in(b: &[u8], at: usize, least: i32, most: i32) -> bool
@@ -338,7 +338,7 @@ fn scale(b: &[u8], n: usize) -> Fault
 // The first fault of a body of the kind, with n rows: its kind's checker judges it.
 fn body(kind: usize, b: &[u8], n: usize) -> Fault
     requires { ⌜ (1 ≤ kind) × (kind ≤ lastKind) × (4 * (n * widthOf kind) ≤ length (now b)) ⌝ }
-    ensures { λ r. ⌜ r ≡ bodyFault kind (now (b .entry)) n ⌝ }
+    ensures { λ r. ⌜ r ≡ firstFault (rowFault kind (now (b .entry)) n) n 0 ⌝ }
 {
     if kind == 1 {
         return zone(b, n);

@@ -7,23 +7,18 @@ use native.Mathlib.Nat.{zero-add, suc-add}
 use native.Mathlib.Omega.{arith}
 use lib.Dec.{eqb}
 use lib.ListN.{length}
-use borrow.Author.Tests.{eqb-true, eqb-false, not-true}
+use borrow.Author.Tests.{eq-eqb, eqb-true, not-true}
 use Rattle.words.specs.Words.{unsignedAt}
 use Rattle.words.specs.Ladder.{need, orElse}
 use Rattle.words.specs.Faults.{firstFault}
 use Rattle.words.proofs.FirstFault.{all-pass}
+use Rattle.words.proofs.Refusals.{rung, past, each-passes}
 use Rattle.contents.specs.declared.Verdict.{Verdict}
 use Rattle.contents.specs.Layout.{entryCount, lastKind, firstBody, leastBytes, mostBytes, widthOf, leastRows, mostRows}
 use Rattle.contents.specs.Entries.{kindAt, startAt, rowsAt, spanAt, named, dueAt, entryOf, startOf, rowsOf}
 use Rattle.contents.specs.Contents.{within, sized, ends, verdict, numberOf, inEntries, entryFault, contentsOf}
 use Rattle.contents.proofs.Limits.{within-true, sized-true}
 use Rattle.contents.proofs.EachKind.{each-kind}
-
--- a rung that was passed: its test holds, and the rest has no fault
-rung : (b : Bool) (x rest : ℕ) → (x ≡ 0 → ⊥) → need b x rest ≡ 0 → (b ≡ true) × (rest ≡ 0)
-unfolding need
-rung true x rest n e = (refl, e)
-rung false x rest n e = absurd (n e)
 
 -- ---- an entry
 pub record Entry (s : List ℕ) (e : ℕ) : Type 0 where
@@ -54,27 +49,39 @@ pub record Passed (s : List ℕ) : Type 0 where
   pub entries : (e : ℕ) → e < entryCount → Entry s e
   pub end : 4 * dueAt s entryCount ≡ length s
 
-pub passed : (s : List ℕ) → contentsOf s .number ≡ 0 → Passed s
-unfolding contentsOf need orElse
-passed s z = pick (sized s) (eqb (unsignedAt s 0) entryCount) (eqb (firstFault (entryFault s) entryCount 0 .number) 0) (ends s) refl refl refl refl z
-  where
-    pick : (a b c d : Bool) → sized s ≡ a → eqb (unsignedAt s 0) entryCount ≡ b → eqb (firstFault (entryFault s) entryCount 0 .number) 0 ≡ c → ends s ≡ d
-        → need a (verdict 1 0 0) (need b (verdict 2 0 0) (cond c (need d (verdict 5 0 7) (verdict 0 0 0)) (inEntries (firstFault (entryFault s) entryCount 0)))) .number ≡ 0
-        → Passed s
-    pick false b c d l w p q z = absurd (omega arith)
-    pick true false c d l w p q z = absurd (omega arith)
-    pick true true false d l w p q z = absurd (eqb-false (firstFault (entryFault s) entryCount 0 .number) 0 p z)
-    pick true true true false l w p q z = absurd (omega arith)
-    pick true true true true l w p q z =
-        let n = sized-true s l in
-        record {
-          long = n .0;
-          short = n .1;
-          whole = n .2;
-          count = eqb-true (unsignedAt s 0) entryCount w;
-          entries = λ e h. entry s e (rw zero-add at (all-pass (entryFault s) entryCount 0 (eqb-true (firstFault (entryFault s) entryCount 0 .number) 0 p) e h));
-          end = eqb-true (4 * dueAt s entryCount) (length s) q;
-        }
+module _ (s : List ℕ) where
+  -- each test of the contents, as a number
+  tests : contentsOf s .number ≡ 0 → (sized s ≡ true) × (eqb (unsignedAt s 0) entryCount ≡ true) × (firstFault (entryFault s) entryCount 0 .number ≡ 0) × (ends s ≡ true)
+  unfolding contentsOf need
+  tests z = pick (sized s) (eqb (unsignedAt s 0) entryCount) (ends s) refl refl refl z
+    where
+      pick : (a b d : Bool) → sized s ≡ a → eqb (unsignedAt s 0) entryCount ≡ b → ends s ≡ d
+          → need a (verdict 1 0 0) (need b (verdict 2 0 0) (orElse numberOf (inEntries (firstFault (entryFault s) entryCount 0)) (need d (verdict 5 0 7) (verdict 0 0 0)))) .number ≡ 0
+          → (sized s ≡ true) × (eqb (unsignedAt s 0) entryCount ≡ true) × (firstFault (entryFault s) entryCount 0 .number ≡ 0) × (ends s ≡ true)
+      pick false b d p q r z = absurd (omega arith)
+      pick true false d p q r z = absurd (omega arith)
+      pick true true true p q r z = (p, q, each-passes numberOf (inEntries (firstFault (entryFault s) entryCount 0)) (verdict 0 0 0) z .0, r)
+      pick true true false p q r z = let five = each-passes numberOf (inEntries (firstFault (entryFault s) entryCount 0)) (verdict 5 0 7) z .1 in absurd (omega (arith, five))
+
+  pub passed : contentsOf s .number ≡ 0 → Passed s
+  passed z =
+      let t = tests z in
+      let n = sized-true s (t .0) in
+      record {
+        long = n .0;
+        short = n .1;
+        whole = n .2;
+        count = eqb-true (unsignedAt s 0) entryCount (t .1);
+        entries = λ e h. entry s e (rw zero-add at (all-pass (entryFault s) entryCount 0 (t .2) e h));
+        end = eqb-true (4 * dueAt s entryCount) (length s) (t .3);
+      }
+
+  -- number 0 is a pass: 0 0 0
+  pub contents-pass : contentsOf s .number ≡ 0 → contentsOf s ≡ verdict 0 0 0
+  unfolding contentsOf orElse
+  contents-pass z =
+      let t = tests z in
+      rw (past (verdict 1 0 0) _ (t .0), past (verdict 2 0 0) _ (t .1), eq-eqb (firstFault (entryFault s) entryCount 0 .number) 0 (t .2), past (verdict 5 0 7) (verdict 0 0 0) (t .3))
 
 -- ---- the end, in the shape of the code's needs
 module _ (s : List ℕ) (none : firstFault (entryFault s) entryCount 0 .number ≡ 0) where

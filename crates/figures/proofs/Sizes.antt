@@ -1,6 +1,6 @@
 -- The size of an integer, `natAbs`: of a sum, a difference, a product, and of a number with a sign put to it; and what a test of order says of sizes.
 -- Assumes nothing.
-use mathlib.Core.Path.{_≡_, refl, sym, _∙_, subst}
+use mathlib.Core.Path.{_≡_, refl, sym, ap, _∙_, subst}
 use mathlib.Core.Bool.{Bool, true, false, not, cond}
 use Prim.Native.Nat.{ℕ, zero, suc, _+_, _*_, _-_, _<_, _≤_, zero-le, suc-le-suc}
 use native.Mathlib.Nat.{le-refl, le-suc, le-trans, add-le-add, mul-le-mul}
@@ -31,6 +31,10 @@ subℕ-le {a} {b} h = rw (le-ltb a b h)
 
 pub subℕ-lt : {a b : ℕ} → a < b → subℕ a b ≡ negsuc (b - suc a)
 subℕ-lt {a} {b} h = rw (lt-ltb a b h)
+
+pub pos-minus : (a b : ℕ) → pos a -ℤ pos b ≡ subℕ a b
+pos-minus a zero = ap pos (omega arith) ∙ sym (subℕ-le {a = a} {b = zero} (omega arith))
+pos-minus a (suc b) = refl
 
 either-most : (k : ℕ) (t : Bool) (x y : ℤ) → (t ≡ true → natAbs x ≤ k) → (t ≡ false → natAbs y ≤ k) → natAbs (cond t x y) ≤ k
 either-most k true x y f g = f refl

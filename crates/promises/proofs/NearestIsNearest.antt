@@ -1,21 +1,17 @@
 -- `nearest` is what "nearest" means, and nothing else is. Assumes nothing.
-use mathlib.Core.Path.{_≡_, refl, sym, ap, _∙_}
-use Prim.Native.Nat.{ℕ, zero, suc, _+_, _*_, _-_, _<_, _≤_}
+use mathlib.Core.Path.{_≡_, sym, ap, _∙_}
+use Prim.Native.Nat.{ℕ, suc, _+_, _*_, _-_, _<_, _≤_}
 use native.Mathlib.Nat.{add-mul}
 use native.Mathlib.Decide.{decLt, decLe}
 use native.Mathlib.Omega.{arith}
 use lib.IntN.{ℤ, pos, negsuc, negℤ, natAbs, subℕ, _-ℤ_, _*ℤ_, negℤ-+ℤ, negℤ-negℤ}
 use Rattle.figures.specs.Nearest.{withSign, nearestSize, nearest}
 use Rattle.figures.proofs.Ring.{minus-times}
-use Rattle.figures.proofs.Sizes.{subℕ-le, subℕ-lt, size-minus}
+use Rattle.figures.proofs.Sizes.{subℕ-le, subℕ-lt, pos-minus, size-minus}
 use Rattle.figures.proofs.Rounding.{is-nearest, only-nearest}
 use Rattle.promises.specs.Meaning.{Nearest}
 
 -- ---- how far two numbers lie apart
-pos-minus : (a b : ℕ) → pos a -ℤ pos b ≡ subℕ a b
-pos-minus a zero = ap pos (omega arith) ∙ sym (subℕ-le {a = a} {b = zero} (omega arith))
-pos-minus a (suc b) = refl
-
 apart : (a b : ℕ) → natAbs (pos a -ℤ pos b) ≡ (a - b) + (b - a)
 apart a b = ap natAbs (pos-minus a b) ∙ by-order (decLe b a)
   where

@@ -1,8 +1,9 @@
 -- The laws that a ladder of refusals is proved by, in the shape of the code's tests: f is what the code found of the test t. Assumes nothing.
-use mathlib.Core.Path.{_≡_, sym, _∙_}
-use mathlib.Core.Bool.{Bool, true, false, not}
+use mathlib.Core.Path.{_≡_, refl, sym, _∙_}
+use mathlib.Core.Bool.{Bool, true, false, not, cond}
 use Prim.Native.Nat.{ℕ, _<_, _≤_}
-use borrow.Author.Tests.{not-true, not-false, lt-ltb, le-ltb, eq-eqb, ne-eqb}
+use lib.Dec.{eqb}
+use borrow.Author.Tests.{not-true, not-false, lt-ltb, le-ltb, eq-eqb, ne-eqb, eqb-true, eqb-false}
 use Rattle.words.specs.Ladder.{need, whereBelow, whereIs, orElse}
 
 -- `if !f { return x; }`: the test failed, or it passed and y is the rest's answer
@@ -53,3 +54,32 @@ module _ {A : Type 0} (number : A → ℕ) (x y r : A) (e : r ≡ x) where
   pub passed-on : (z : A) → number r ≡ 0 → z ≡ y → z ≡ orElse number x y
   unfolding orElse
   passed-on z n q = rw (eq-eqb (number x) 0 (rw e at n)) q
+
+-- ---- what an answer of 0 tells of the ladder that gave it
+-- its test holds, and the rest has no fault
+pub rung : (t : Bool) (x rest : ℕ) → (x ≡ 0 → ⊥) → need t x rest ≡ 0 → (t ≡ true) × (rest ≡ 0)
+unfolding need
+rung true x rest n e = (refl, e)
+rung false x rest n e = absurd (n e)
+
+-- and a test that holds gives way to the rest
+pub past : {A : Type 0} {t : Bool} (x rest : A) → t ≡ true → need t x rest ≡ rest
+unfolding need
+past x rest e = rw e
+
+pub where-below : {A : Type 0} (a b : ℕ) (x y : A) → a < b → whereBelow a b x y ≡ x
+unfolding whereBelow
+where-below a b x y h = rw (lt-ltb a b h)
+
+pub where-beyond : {A : Type 0} (a b : ℕ) (x y : A) → b ≤ a → whereBelow a b x y ≡ y
+unfolding whereBelow
+where-beyond a b x y h = rw (le-ltb a b h)
+
+module _ {A : Type 0} (number : A → ℕ) (x y : A) where
+  pub each-passes : number (orElse number x y) ≡ 0 → (number x ≡ 0) × (number y ≡ 0)
+  unfolding orElse
+  each-passes e = pick (eqb (number x) 0) refl e
+    where
+      pick : (b : Bool) → eqb (number x) 0 ≡ b → number (cond b y x) ≡ 0 → (number x ≡ 0) × (number y ≡ 0)
+      pick true q e = (eqb-true (number x) 0 q, e)
+      pick false q e = absurd (eqb-false (number x) 0 q e)

@@ -1,35 +1,32 @@
 -- `bodies::body` meets its contract. Assumes nothing.
-use native.Mathlib.Omega.{arith}
 use mathlib.Core.Path.{_≡_}
-use Rattle.words.proofs.Refusals.{is, is-not}
-use Rattle.bodies.specs.Check.{bodyFault}
+use native.Mathlib.Omega.{arith}
 use Rattle.bodies.proofs.Parts.{rows-zone, rows-latitude, rows-longitude, rows-northing, rows-easting, rows-scale}
+use Rattle.bodies.proofs.ByRow.{of-zone, of-latitude, of-longitude, of-northing, of-easting, of-scale}
 use Rattle.bodies.proofs.body.Statement.{statement}
 use Rattle.bodies.proofs.body.Tie as tie
 
+-- a kind that is none of the first five is the sixth
+six : (c : tie.Else5) → c .before .before .before .before .before .before .args .kind ≡ 6
+six c = omega arith
+
 returns : tie.Need-returns
-unfolding bodyFault
-returns c = search is
+returns c = search of-zone
 
 returns-2 : tie.Need-returns-2
-unfolding bodyFault
-returns-2 c = search (is, is-not)
+returns-2 c = search of-latitude
 
 returns-3 : tie.Need-returns-3
-unfolding bodyFault
-returns-3 c = search (is, is-not)
+returns-3 c = search of-longitude
 
 returns-4 : tie.Need-returns-4
-unfolding bodyFault
-returns-4 c = search (is, is-not)
+returns-4 c = search of-northing
 
 returns-5 : tie.Need-returns-5
-unfolding bodyFault
-returns-5 c = search (is, is-not)
+returns-5 c = search of-easting
 
 returns-6 : tie.Need-returns-6
-unfolding bodyFault
-returns-6 c = search is-not
+returns-6 c = of-scale _ _ _ _ (six (c .before)) (c .scale .ensures)
 
 zone-requires : tie.Need-zone-requires
 zone-requires c κs = search rows-zone
@@ -47,10 +44,7 @@ easting-requires : tie.Need-easting-requires
 easting-requires c κs = search rows-easting
 
 scale-requires : tie.Need-scale-requires
-scale-requires c κs =
-    let e = c .before .before .before .before .before .before in
-    let six : e .args .kind ≡ 6 = omega arith in
-    rows-scale _ _ _ (e .pre .2) six
+scale-requires c κs = rows-scale _ _ _ (c .before .before .before .before .before .before .pre .2) (six c)
 
 pub body-spec : {M : Type 1} → statement M
 body-spec =

@@ -1,0 +1,34 @@
+-- A row's fault is that of its kind, so a body's first fault is its kind's checker's. Assumes nothing.
+use mathlib.Core.Path.{_≡_, refl, _∙_, ap}
+use mathlib.Core.List.{List}
+use Prim.Native.Nat.{ℕ}
+use Rattle.words.specs.declared.Fault.{Fault}
+use Rattle.words.specs.Ladder.{whereIs}
+use Rattle.words.specs.Faults.{firstFault}
+use Rattle.bodies.specs.Rows.{zoneFault, latitudeFault, longitudeFault, northingFault, eastingFault, scaleFault}
+use Rattle.bodies.specs.Check.{rowFault}
+
+module _ (kind : ℕ) (b : List ℕ) (n : ℕ) (r : Fault) where
+  pub of-zone : kind ≡ 1 → r ≡ firstFault (zoneFault b) n 0 → r ≡ firstFault (rowFault kind b n) n 0
+  unfolding rowFault whereIs
+  of-zone e q = rw e q
+
+  pub of-latitude : kind ≡ 2 → r ≡ firstFault (latitudeFault b n) n 0 → r ≡ firstFault (rowFault kind b n) n 0
+  unfolding rowFault whereIs
+  of-latitude e q = rw e q
+
+  pub of-longitude : kind ≡ 3 → r ≡ firstFault (longitudeFault b n) n 0 → r ≡ firstFault (rowFault kind b n) n 0
+  unfolding rowFault whereIs
+  of-longitude e q = rw e q
+
+  pub of-northing : kind ≡ 4 → r ≡ firstFault (northingFault b) n 0 → r ≡ firstFault (rowFault kind b n) n 0
+  unfolding rowFault whereIs
+  of-northing e q = rw e q
+
+  pub of-easting : kind ≡ 5 → r ≡ firstFault (eastingFault b) n 0 → r ≡ firstFault (rowFault kind b n) n 0
+  unfolding rowFault whereIs
+  of-easting e q = rw e q
+
+  pub of-scale : kind ≡ 6 → r ≡ firstFault (scaleFault b) n 0 → r ≡ firstFault (rowFault kind b n) n 0
+  unfolding rowFault whereIs
+  of-scale e q = rw e q

@@ -1,0 +1,6 @@
+-- Laws of reading tables: the order of ℤ, rising columns, the row of a reduced northing, what a reading needs and what it depends on. Other crates cite them.
+pub mod Order
+pub mod LastRow
+pub mod Rising
+pub mod Within
+pub mod Local

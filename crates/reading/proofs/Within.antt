@@ -1,0 +1,27 @@
+-- The words that a reading takes lie in a body of n rows: at any row, and at any offset from row 0 to the last row. Assumes nothing.
+use Prim.Native.Nat.{ℕ, suc, _+_, _*_, _-_, _/_, _%_, _<_, _≤_}
+use mathlib.Core.List.{List}
+use native.Mathlib.Nat.{mul-suc, mul-le-mul-left, div-add-mod', le-of-mul-le-mul-right, lt-of-mul-lt-mul-right}
+use native.Mathlib.Omega.{arith}
+use lib.ListN.{length}
+
+module _ (b : List ℕ) (w c n : ℕ) (rows : 4 * (w * n) ≤ length b) (inside : c < w) where
+  -- row i's word
+  pub row-within : (i : ℕ) → i < n → 4 * (w * i + c) + 4 ≤ length b
+  row-within i l = omega (arith, mul-le-mul-left w l, mul-suc w i)
+
+  -- the row after row i
+  pub next-within : (i : ℕ) → suc i < n → 4 * (w * i + c + w) + 4 ≤ length b
+  next-within i l = omega (arith, row-within (suc i) l, mul-suc w i)
+
+  -- what `value_at` asks
+  pub value-within : (step offset : ℕ) → 0 < step → 0 < n → offset ≤ (n - 1) * step
+      → (4 * (w * (offset / step) + c) + 4 ≤ length b) × (0 < offset % step → 4 * (w * (offset / step) + c + w) + 4 ≤ length b)
+  value-within step offset p m h =
+      let parts = div-add-mod' offset step in
+      let row : offset / step ≤ n - 1 = le-of-mul-le-mul-right {k = step} (omega (arith, parts)) p in (
+        row-within (offset / step) (omega arith),
+        λ r.
+            let below : offset / step < n - 1 = lt-of-mul-lt-mul-right step (omega (arith, parts)) in
+            next-within (offset / step) (omega arith),
+      )

@@ -1,0 +1,18 @@
+-- Reading a table between its rows, over the body's part, whatever its step.
+use mathlib.Core.List.{List}
+use Prim.Native.Nat.{ℕ, _+_, _*_, _/_, _%_}
+use lib.IntN.{ℤ}
+use Rattle.figures.specs.Between.{between}
+use Rattle.words.specs.Words.{wordAt}
+
+-- The figure in row i of column c, for a body b of w words in a row. Rows and columns count from 0.
+abbrev pub column : List ℕ → ℕ → ℕ → ℕ → ℤ
+column b w c i = wordAt b (w * i + c)
+
+-- "Between rows u and w of step S, at an offset t from 0 to below S, the value is u + (w − u)t/S": u is row i, w the row after it.
+unfoldable pub pastRow : (ℕ → ℤ) → ℕ → ℕ → ℕ → ℤ
+pastRow f i t step = between (f i) (f (i + 1)) t step
+
+-- The value at an offset from row 0: the whole steps in it give the row, and the rest is t. "At the last row only t = 0 is used."
+unfoldable pub valueAt : (ℕ → ℤ) → ℕ → ℕ → ℤ
+valueAt f step offset = pastRow f (offset / step) (offset % step) step

@@ -1,0 +1,94 @@
+// Reading tables: a column's value at an offset, and the row of a reduced northing.
+ghost use mathlib.Core.Path.{_≡_};
+ghost use mathlib.Core.Bool.{true};
+ghost use Prim.Native.Nat.{_+_, _*_, _/_, _%_, _^_, _<_, _≤_, min};
+ghost use lib.ListN.{length};
+ghost use lib.IntN.{pos, natAbs, _+ℤ_};
+ghost use lib.Signed.{leZ, ltZ};
+ghost use Rattle.figures.specs.Ranges.{mostStep};
+ghost use Rattle.words.specs.Words.{wordAt};
+ghost use Rattle.reading.specs.Tables.{column, pastRow, valueAt};
+ghost use Rattle.reading.specs.Rows.{lastNotAbove, Rises, Rising};
+
+// The value of column c at t past row i, for a body of w words in a row. At t = 0 the next row is not looked at.
+pub fn past_row(b: &[u8], w: usize, c: usize, i: usize, t: u64, step: u64) -> i64
+    requires { ⌜ (4 * (w * i + c) + 4 ≤ length (now b)) × (0 < t → 4 * (w * i + c + w) + 4 ≤ length (now b)) × (t < step) × (step ≤ mostStep) ⌝ }
+    ensures { λ r. ⌜ r ≡ pastRow (column (now (b .entry)) w c) i t step ⌝ }
+{
+    let at = w * i + c;
+    let u = words::word(b, at);
+    if t == 0 {
+        return u as i64;
+    }
+    let next = words::word(b, at + w);
+    figures::between(u as i64, next as i64, t, step)
+}
+
+// The value of column c at an offset from row 0.
+pub fn value_at(b: &[u8], w: usize, c: usize, step: u64, offset: u64) -> i64
+    requires { ⌜ (0 < step) × (step ≤ mostStep) × (4 * (w * (offset / step) + c) + 4 ≤ length (now b)) × (0 < offset % step → 4 * (w * (offset / step) + c + w) + 4 ≤ length (now b)) ⌝ }
+    ensures { λ r. ⌜ r ≡ valueAt (column (now (b .entry)) w c) step offset ⌝ }
+{
+    past_row(b, w, c, (offset / step) as usize, offset % step, step)
+}
+
+// Whether row i's figure in column c is not above z.
+fn not_above(b: &[u8], w: usize, c: usize, i: usize, z: i64) -> bool
+    requires { ⌜ 4 * (w * i + c) + 4 ≤ length (now b) ⌝ }
+    ensures { λ r. ⌜ r ≡ leZ (column (now (b .entry)) w c i) z ⌝ }
+{
+    (words::word(b, w * i + c) as i64) <= z
+}
+
+// Of the n rows of a rising column, the last whose figure is not above z, which is one from row low to below row high.
+pub fn last_not_above(
+    b: &[u8],
+    w: usize,
+    c: usize,
+    n: usize,
+    low: usize,
+    high: usize,
+    z: i64,
+) -> usize
+    requires { ⌜ (low < high) × (high ≤ n) × (4 * (w * n) ≤ length (now b)) × (c < w) × Rising (column (now b) w c) n × (leZ (column (now b) w c low) z ≡ true) × (high < n → ltZ z (column (now b) w c high) ≡ true) ⌝ }
+    ensures { λ r. ⌜ (r ≡ lastNotAbove (column (now (b .entry)) w c) n z) × (r < n) ⌝ }
+{
+    let mut from = low;
+    let mut to = high;
+    while from + 1 < to {
+        let mid = from + (to - from) / 2;
+        if not_above(b, w, c, mid, z) {
+            from = mid;
+        } else {
+            to = mid;
+        }
+    }
+    from // the one row left
+}
+
+// How far z stands above the figure in column c of row 0.
+fn height(b: &[u8], c: usize, z: i64) -> u64
+    requires { ⌜ (4 * c + 4 ≤ length (now b)) × (leZ (wordAt (now b) c) z ≡ true) × (natAbs z < 2 ^ 62) ⌝ }
+    ensures { λ r. ⌜ z ≡ wordAt (now (b .entry)) c +ℤ pos r ⌝ }
+{
+    (z - (words::word(b, c) as i64)) as u64
+}
+
+// k, cut to the last row.
+fn cut(k: u64, last: usize) -> usize
+    ensures { λ r. ⌜ r ≡ min k last ⌝ }
+{
+    if k < (last as u64) { k as usize } else { last }
+}
+
+// The same row where each row is higher than the one before it by least to most: a number d above row 0 can stand no lower than row d / most, and no
+// higher than row d / least, and the search goes through these rows alone.
+pub fn row_of(b: &[u8], w: usize, c: usize, n: usize, least: u64, most: u64, z: i64) -> usize
+    requires { ⌜ (0 < n) × (4 * (w * n) ≤ length (now b)) × (c < w) × (0 < least) × (least ≤ most) × Rises (column (now b) w c) n least most × (leZ (column (now b) w c 0) z ≡ true) × (natAbs z < 2 ^ 62) ⌝ }
+    ensures { λ r. ⌜ (r ≡ lastNotAbove (column (now (b .entry)) w c) n z) × (r < n) ⌝ }
+{
+    let d = height(b, c, z);
+    let low = cut(d / most, n - 1);
+    let high = cut(d / least, n - 1) + 1;
+    last_not_above(b, w, c, n, low, high, z)
+}
