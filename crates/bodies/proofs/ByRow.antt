@@ -1,5 +1,5 @@
 -- A row's fault is that of its kind, so a body's first fault is its kind's checker's. Assumes nothing.
-use mathlib.Core.Path.{_≡_, refl, _∙_, ap}
+use mathlib.Core.Path.{_≡_}
 use mathlib.Core.List.{List}
 use Prim.Native.Nat.{ℕ}
 use Rattle.words.specs.declared.Fault.{Fault}

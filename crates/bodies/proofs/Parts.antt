@@ -1,7 +1,7 @@
 -- A body as it is lent to its checker: it has the rows that its kind's checker asks for, and it is the part of the sheet that the contents say. Assumes nothing.
 use mathlib.Core.Path.{_≡_, ap, _∙_}
 use mathlib.Core.List.{List}
-use Prim.Native.Nat.{ℕ, _+_, _*_, _-_, _<_, _≤_}
+use Prim.Native.Nat.{ℕ, _+_, _*_, _-_, _≤_}
 use native.Mathlib.Omega.{arith}
 use lib.ListN.{length, take, drop, length-take, length-drop}
 use mir.Syntax.{w64}
@@ -11,7 +11,7 @@ use Rattle.words.specs.Faults.{firstFault}
 use Rattle.words.proofs.PartWords.{part-is}
 use Rattle.contents.specs.declared.Place.{Place}
 use Rattle.contents.specs.Layout.{lastKind, leastBytes, mostBytes, widthOf}
-use Rattle.contents.specs.Entries.{startOf, rowsOf, bodyOf, placeOf}
+use Rattle.contents.specs.Entries.{placeOf}
 use Rattle.contents.specs.Contents.{contentsOf}
 use Rattle.contents.proofs.Passing.{passed, body-within}
 use Rattle.bodies.specs.Check.{rowFault, faultOf}

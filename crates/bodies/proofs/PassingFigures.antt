@@ -1,20 +1,17 @@
 -- What the figures of a body whose rows have no fault are: in their ranges, y0 strictly rising, each b at most 10 units for each second of its place, the differences
 -- as stated. Assumes nothing.
-use mathlib.Core.Path.{_≡_, refl, sym, ap, _∙_}
-use mathlib.Core.Bool.{Bool, true}
+use mathlib.Core.Path.{_≡_, sym, ap, _∙_}
+use mathlib.Core.Bool.{true}
 use mathlib.Core.List.{List}
 use Prim.Native.Nat.{ℕ, zero, suc, _+_, _*_, _-_, _<_, _≤_}
-use native.Mathlib.Nat.{mul-add}
-use native.Mathlib.Numerals.{add-one}
-use native.Mathlib.Decide.{decLt}
 use native.Mathlib.Omega.{arith}
 use lib.IntN.{ℤ, pos, natAbs, _-ℤ_, -ℤ-+ℤ-cancel}
 use Rattle.figures.proofs.Sizes.{size-sum}
 use Rattle.words.specs.Words.{wordAt}
 use Rattle.words.proofs.Refusals.{where-beyond}
-use Rattle.rules.specs.Limits.{inRange, rises}
+use Rattle.rules.specs.Limits.{inRange}
 use Rattle.rules.specs.Latitude.{differencesOf, noDifferences}
-use Rattle.rules.proofs.WhatPasses.{range-size, range-most, rises-most, InRange, figures-in, Bounded, figures-bounded, differences-are}
+use Rattle.rules.proofs.WhatPasses.{range-size, rises-most, InRange, figures-in, Bounded, figures-bounded, differences-are}
 use Rattle.bodies.specs.Rows.{zeroFirst, figuresAt, differencesAt}
 use Rattle.bodies.proofs.PassingRows.{LatitudeRow, LongitudeRow}
 

@@ -7,9 +7,9 @@ use native.Mathlib.Omega.{arith}
 use lib.IntN.{pos}
 use mathlib.Core.Bool.{true}
 use Rattle.words.specs.Words.{wordAt}
-use Rattle.words.specs.Ladder.{orElse, whereIs}
+use Rattle.words.specs.Ladder.{whereIs}
 use Rattle.rules.specs.Limits.{inRange}
-use Rattle.words.specs.Faults.{fault, firstFault}
+use Rattle.words.specs.Faults.{fault}
 use Rattle.words.proofs.FirstFault.{all-pass, no-fault}
 use Rattle.words.proofs.Refusals.{each-passes, passed-on}
 use Rattle.contents.specs.Layout.{lastKind, zone, latitude, longitude, northing, easting, scale}

@@ -1,6 +1,6 @@
 -- What a sheet whose contents have no fault has: each kind has its rows, within its limits, and each body lies within the sheet. Assumes nothing.
-use mathlib.Core.Path.{_≡_, refl, sym, ap, _∙_}
-use mathlib.Core.Bool.{Bool, true, false, not, cond}
+use mathlib.Core.Path.{_≡_, refl, ap, _∙_}
+use mathlib.Core.Bool.{Bool, true, false}
 use mathlib.Core.List.{List}
 use Prim.Native.Nat.{ℕ, zero, suc, _+_, _*_, _-_, _%_, _<_, _≤_}
 use native.Mathlib.Nat.{zero-add, suc-add}
@@ -13,10 +13,9 @@ use Rattle.words.specs.Ladder.{need, orElse}
 use Rattle.words.specs.Faults.{firstFault}
 use Rattle.words.proofs.FirstFault.{all-pass}
 use Rattle.words.proofs.Refusals.{rung, past, each-passes}
-use Rattle.contents.specs.declared.Verdict.{Verdict}
 use Rattle.contents.specs.Layout.{entryCount, lastKind, firstBody, leastBytes, mostBytes, widthOf, leastRows, mostRows}
 use Rattle.contents.specs.Entries.{kindAt, startAt, rowsAt, spanAt, named, dueAt, entryOf, startOf, rowsOf}
-use Rattle.contents.specs.Contents.{within, sized, ends, verdict, numberOf, inEntries, entryFault, contentsOf}
+use Rattle.contents.specs.Contents.{sized, ends, verdict, numberOf, inEntries, entryFault, contentsOf}
 use Rattle.contents.proofs.Limits.{within-true, sized-true}
 use Rattle.contents.proofs.EachKind.{each-kind}
 

@@ -11,7 +11,7 @@ use borrow.Author.Tests.{leb-true}
 use Rattle.figures.proofs.Sizes.{within-size, pos-minus, subℕ-le, subℕ-lt}
 use Rattle.rules.specs.declared.Figures.{Figures}
 use Rattle.rules.specs.declared.Differences.{Differences}
-use Rattle.rules.specs.Limits.{inRange, rises, sameAs}
+use Rattle.rules.specs.Limits.{inRange, rises}
 use Rattle.rules.specs.Latitude.{figuresInRange, withinBounds, sameDifferences}
 use Rattle.rules.proofs.Tests.{both}
 use Rattle.rules.proofs.Ranges.{range-true, same-true}

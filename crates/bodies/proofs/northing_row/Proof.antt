@@ -1,5 +1,5 @@
 -- `bodies::northing_row` meets its contract. Assumes nothing.
-use Rattle.words.proofs.Refusals.{stop, go, below, beyond}
+use Rattle.words.proofs.Refusals.{stop, go}
 use Rattle.bodies.specs.Rows.{northingFault}
 use borrow.Author.Needs.{needs}
 use Rattle.bodies.proofs.northing_row.Statement.{statement}

@@ -1,5 +1,5 @@
 -- `bodies::scale_row` meets its contract. Assumes nothing.
-use Rattle.words.proofs.Refusals.{stop, go, below, beyond}
+use Rattle.words.proofs.Refusals.{stop, go}
 use Rattle.bodies.specs.Rows.{scaleFault}
 use borrow.Author.Needs.{needs}
 use Rattle.bodies.proofs.scale_row.Statement.{statement}

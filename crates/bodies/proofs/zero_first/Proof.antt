@@ -1,6 +1,5 @@
 -- `bodies::zero_first` meets its contract. Assumes nothing.
 use Rattle.words.proofs.Refusals.{below, beyond}
-use mathlib.Core.Path.{refl}
 use Rattle.bodies.specs.Rows.{zeroFirst}
 use borrow.Author.Needs.{needs}
 use Rattle.bodies.proofs.zero_first.Statement.{statement}

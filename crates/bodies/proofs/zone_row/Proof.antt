@@ -1,5 +1,5 @@
 -- `bodies::zone_row` meets its contract. Assumes nothing.
-use Rattle.words.proofs.Refusals.{stop, go, below, beyond}
+use Rattle.words.proofs.Refusals.{stop, go}
 use Rattle.bodies.specs.Rows.{zoneFault}
 use borrow.Author.Needs.{needs}
 use Rattle.bodies.proofs.zone_row.Statement.{statement}
