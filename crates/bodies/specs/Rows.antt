@@ -1,5 +1,6 @@
 -- The faults of a row, kind by kind. b is the body: the part of the sheet that holds its n rows; i is the row, counted from 0. Each fault is a number, 0 for none.
--- The figures stand in the order of 01's table, with its units and ranges; "row 0 is 0" is a range too, and number 6.
+-- The figures stand in the order of the table of kinds, with its units and ranges; "row 0 is 0" is a range too, and number 6. "No word may be missing; zero is a
+-- figure like any other." In the quotes b is a figure of kind 3.
 use mathlib.Core.Bool.{Bool, true}
 use mathlib.Core.List.{List}
 use Prim.Native.Nat.{ℕ, _+_, _*_}

@@ -138,7 +138,7 @@ fn latitude_row(b: &[u8], n: usize, i: usize) -> u32
         }
     } else {
         if !last_as_stated(b, i) {
-            return 9;
+            return 9; // a difference in the last row
         }
     }
     0

@@ -24,7 +24,7 @@ unfoldable pub within : ℕ → ℕ → ℕ → Bool
 within least n most = leb least n && leb n most
 
 -- "each entry by 2, 3, 4, start": 2 "kind not 1 to 6"; 3 "kind named by an earlier entry"; 4 "rows outside the kind's limits"; 5 "body start wrong".
--- The number of entry e's fault, 0 for none.
+-- The number of entry e's fault, 0 for none, where the entries before it have none.
 unfoldable pub entryFault : List ℕ → ℕ → ℕ
 entryFault s e =
     need (within 1 (kindAt s e) lastKind) 2
@@ -33,11 +33,11 @@ entryFault s e =
     (need (eqb (startAt s e) (dueAt s e)) 5
     0)))
 
--- 1: "sheet under 76 bytes, over 65,532, or not a multiple of 4"
+-- It passes unless 1: "sheet under 76 bytes, over 65,532, or not a multiple of 4"
 unfoldable pub sized : List ℕ → Bool
 sized s = within leastBytes (length s) mostBytes && eqb (length s % 4) 0
 
--- 5: "the bodies' end is not the sheet's end"
+-- It passes unless 5: "the bodies' end is not the sheet's end". So "the final body ends the sheet".
 abbrev pub ends : List ℕ → Bool
 ends s = eqb (4 * dueAt s entryCount) (length s)
 
@@ -46,7 +46,7 @@ abbrev pub inEntries : Fault → Verdict
 inEntries f = verdict (f .number) 0 (f .place + 1)
 
 -- "Order: 1; word 0; each entry by 2, 3, 4, start; the end". "A fault of length, word 0 or contents answers kind 0 and the entry's place counted from 1
--- (0 for length and word 0, one past the last entry for the end)."
+-- (0 for length and word 0, one past the last entry for the end)." 2 is for "word 0 not 6" too.
 unfoldable pub contentsOf : List ℕ → Verdict
 contentsOf s =
     need (sized s) (verdict 1 0 0)

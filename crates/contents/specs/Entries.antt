@@ -1,5 +1,6 @@
 -- The entries of the contents, and where each kind's body lies. Entries count from 0 here.
--- Kind, start and rows are read without a sign. A word below zero then reads 2³¹ or more, which is outside every limit of the contents as the word itself is.
+-- Word 0, kind, start and rows are read without a sign. A word below zero then reads 2³¹ or more: that is not 6, no kind, over every limit of rows and, where the
+-- entries before have no fault, no word at which a body may have to start, since those go to 10,153.
 use mathlib.Core.Bool.{Bool, false, cond, _||_}
 use mathlib.Core.List.{List}
 use Prim.Native.Nat.{ℕ, zero, suc, _+_, _*_}

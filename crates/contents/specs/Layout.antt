@@ -45,7 +45,7 @@ easting = 5
 abbrev pub scale : ℕ
 scale = 6
 
--- "Words in a row", by kind; there is no kind 0.
+-- "Words in a row", by kind. There is no kind 0, and none above 6.
 abbrev pub widthOf : ℕ → ℕ
 widthOf kind = getD (0 ∷ 2 ∷ 8 ∷ 2 ∷ 2 ∷ 1 ∷ 1 ∷ []) kind 0
 

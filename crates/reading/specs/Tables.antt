@@ -5,14 +5,15 @@ use lib.IntN.{ℤ}
 use Rattle.figures.specs.Between.{between}
 use Rattle.words.specs.Words.{wordAt}
 
--- The figure in row i of column c, for a body b of w words in a row. Rows and columns count from 0.
+-- The figure in row i of a column, for a body of so many words in a row. Rows and columns count from 0.
 abbrev pub column : List ℕ → ℕ → ℕ → ℕ → ℤ
-column b w c i = wordAt b (w * i + c)
+column body width place i = wordAt body (width * i + place)
 
--- "Between rows u and w of step S, at an offset t from 0 to below S, the value is u + (w − u)t/S": u is row i, w the row after it.
+-- "Between rows u and w of step S, at an offset t from 0 to below S, the value is u + (w − u)t/S": u is row i's figure, and w the next row's.
 unfoldable pub pastRow : (ℕ → ℤ) → ℕ → ℕ → ℕ → ℤ
 pastRow f i t step = between (f i) (f (i + 1)) t step
 
--- The value at an offset from row 0: the whole steps in it give the row, and the rest is t. "At the last row only t = 0 is used."
+-- The value at an offset from row 0: the whole steps in it give the row, and the rest is t. "At the last row only t = 0 is used":
+-- the row after it, which is not there, then counts 0 times. An offset past the last row is for its user to refuse first.
 unfoldable pub valueAt : (ℕ → ℤ) → ℕ → ℕ → ℤ
 valueAt f step offset = pastRow f (offset / step) (offset % step) step

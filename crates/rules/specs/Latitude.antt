@@ -15,6 +15,7 @@ figuresInRange f =
     && inRange (negℤ (pos 2_000)) (f .a) (pos 2_000)))
 
 -- "Between a latitude row and the next: [..] y0 rises by 600,000 to 615,000; H falls by 1 to 50,000; V differs by at most 1,000 and a by at most 10."
+-- H's fall is the rise from the next row's H to this one's.
 unfoldable pub withinBounds : Figures → Figures → Bool
 withinBounds f next =
     rises (f .y0) (next .y0) (pos 600_000) (pos 615_000)
@@ -22,7 +23,8 @@ withinBounds f next =
     && (rises (f .v) (next .v) (negℤ (pos 1_000)) (pos 1_000)
     && rises (f .a) (next .a) (negℤ (pos 10)) (pos 10)))
 
--- "Δy, ΔH and ΔV are the differences over 60 seconds: nearest whole to 1000(y0 next − y0)/60, 100(H − H next)/60, 100(V next − V)/60"
+-- "Δy, ΔH and ΔV are the differences over 60 seconds: nearest whole to 1000(y0 next − y0)/60, 100(H − H next)/60, 100(V next − V)/60
+-- (no half can occur)"
 unfoldable pub differencesOf : Figures → Figures → Differences
 differencesOf f next = record {
   y = perSecond 1_000 (next .y0 -ℤ f .y0);
@@ -34,6 +36,6 @@ differencesOf f next = record {
 unfoldable pub noDifferences : Differences
 noDifferences = record { y = pos 0; h = pos 0; v = pos 0 }
 
--- The three are those of d.
+-- e's three are d's three.
 unfoldable pub sameDifferences : Differences → Differences → Bool
 sameDifferences e d = sameAs (e .y) (d .y) && (sameAs (e .h) (d .h) && sameAs (e .v) (d .v))

@@ -8,7 +8,7 @@ use lib.Signed.{leZ}
 unfoldable pub inRange : ℤ → ℤ → ℤ → Bool
 inRange least x most = leZ least x && leZ x most
 
--- From a row's x to the next row's, the rise is from least to most. A fall is a rise below zero.
+-- From x in a row to the next row's, the rise is from least to most. A fall is a rise below zero.
 unfoldable pub rises : ℤ → ℤ → ℤ → ℤ → Bool
 rises x next least most = inRange least (next -ℤ x) most
 
