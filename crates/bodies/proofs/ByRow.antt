@@ -5,7 +5,7 @@ use Prim.Native.Nat.{ℕ}
 use Rattle.words.specs.declared.Fault.{Fault}
 use Rattle.words.specs.Ladder.{whereIs}
 use Rattle.words.specs.Faults.{firstFault}
-use Rattle.bodies.specs.Rows.{zoneFault, latitudeFault, longitudeFault, northingFault, eastingFault, scaleFault}
+use Rattle.rows.specs.Rows.{zoneFault, latitudeFault, longitudeFault, northingFault, eastingFault, scaleFault}
 use Rattle.bodies.specs.Check.{rowFault}
 
 module _ (kind : ℕ) (b : List ℕ) (n : ℕ) (r : Fault) where

@@ -2,6 +2,4 @@
 pub mod ByRow
 pub mod Parts
 pub mod ByKind
-pub mod PassingRows
 pub mod Sound
-pub mod PassingFigures

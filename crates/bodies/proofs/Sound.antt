@@ -4,11 +4,7 @@ use mathlib.Core.List.{List}
 use Prim.Native.Nat.{ℕ, zero, suc, _+_, _-_, _<_, _≤_}
 use native.Mathlib.Nat.{add-zero, zero-add}
 use native.Mathlib.Omega.{arith}
-use lib.IntN.{pos}
-use mathlib.Core.Bool.{true}
-use Rattle.words.specs.Words.{wordAt}
 use Rattle.words.specs.Ladder.{whereIs}
-use Rattle.rules.specs.Limits.{inRange}
 use Rattle.words.specs.Faults.{fault}
 use Rattle.words.proofs.FirstFault.{all-pass, no-fault}
 use Rattle.words.proofs.Refusals.{each-passes, passed-on}
@@ -17,7 +13,7 @@ use Rattle.contents.specs.Entries.{rowsOf, bodyOf}
 use Rattle.contents.specs.Contents.{verdict, numberOf, contentsOf}
 use Rattle.contents.proofs.Passing.{contents-pass}
 use Rattle.bodies.specs.Check.{rowFault, faultOf, inKind, bodiesOf, checkOf}
-use Rattle.bodies.proofs.PassingRows.{ZoneRow, zone-row, LatitudeRow, latitude-row, LongitudeRow, longitude-row, NorthingRow, northing-row, EastingRow, easting-row, scale-row}
+use Rattle.rows.proofs.PassingRows.{ZoneRow, zone-row, LatitudeRow, latitude-row, LongitudeRow, longitude-row, NorthingRow, northing-row, EastingRow, easting-row, ScaleRow, scale-row}
 
 pub record Sound (s : List ℕ) : Type 0 where
   pub contents : contentsOf s ≡ verdict 0 0 0
@@ -89,6 +85,6 @@ module _ (s : List ℕ) (p : Sound s) where
   unfolding rowFault whereIs
   easting-rows i h = easting-row (bodyOf s easting) i (p .rows easting i (omega arith) (omega arith) h)
 
-  pub scale-rows : (i : ℕ) → i < rowsOf s scale → inRange (pos 9_990_000) (wordAt (bodyOf s scale) i) (pos 10_010_000) ≡ true
+  pub scale-rows : (i : ℕ) → i < rowsOf s scale → ScaleRow (bodyOf s scale) i
   unfolding rowFault whereIs
   scale-rows i h = scale-row (bodyOf s scale) i (p .rows scale i (omega arith) (omega arith) h)

@@ -8,7 +8,7 @@ use Rattle.contents.specs.declared.Verdict.{Verdict}
 use Rattle.contents.specs.Layout.{lastKind, zone, latitude, longitude, northing, easting}
 use Rattle.contents.specs.Entries.{rowsOf, bodyOf}
 use Rattle.contents.specs.Contents.{verdict, numberOf, contentsOf}
-use Rattle.bodies.specs.Rows.{zoneFault, latitudeFault, longitudeFault, northingFault, eastingFault, scaleFault}
+use Rattle.rows.specs.Rows.{zoneFault, latitudeFault, longitudeFault, northingFault, eastingFault, scaleFault}
 
 -- The number of the fault of row i of a body b of the kind, 1 to 6, which has n rows.
 unfoldable pub rowFault : ℕ → List ℕ → ℕ → ℕ → ℕ

@@ -1,3 +1,2 @@
--- The definitions that `bodies` and the crates above it cite: the fault of a row, by kind, and the check's answer.
-pub mod Rows
+-- The definition of the check.
 pub mod Check

@@ -6,7 +6,7 @@ use Prim.Native.Nat.{_-_, _≤_}
 use native.Mathlib.Nat.{sub-zero}
 use Rattle.words.specs.Faults.{firstFault}
 use Rattle.words.proofs.FirstFault.{on, here, end}
-use Rattle.bodies.specs.Rows.{scaleFault}
+use Rattle.rows.specs.Rows.{scaleFault}
 use Rattle.bodies.proofs.scale.Statement.{statement}
 use Rattle.bodies.proofs.scale.Tie as tie
 

@@ -1,0 +1,3 @@
+-- Laws of rows that have no fault. Other crates cite them.
+pub mod PassingRows
+pub mod PassingFigures

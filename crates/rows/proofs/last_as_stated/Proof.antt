@@ -1,0 +1,21 @@
+-- `rows::last_as_stated` meets its contract. Assumes nothing.
+use borrow.Author.Needs.{needs}
+use Rattle.rows.proofs.last_as_stated.Statement.{statement}
+use Rattle.rows.proofs.last_as_stated.Tie as tie
+
+returns : tie.Need-returns
+returns c = cc
+
+differences-at-requires : tie.Need-differences-at-requires
+differences-at-requires c κs = search needs
+
+no-differences-requires : tie.Need-no-differences-requires
+no-differences-requires c κs = search needs
+
+same-differences-requires : tie.Need-same-differences-requires
+same-differences-requires c κs = search needs
+
+pub last-as-stated-spec : {M : Type 1} → statement M
+last-as-stated-spec =
+    tie.close
+    (tie.spec differences-at-requires no-differences-requires same-differences-requires returns)

@@ -1,0 +1,20 @@
+-- `rows::scale_row` meets its contract. Assumes nothing.
+use Rattle.words.proofs.Refusals.{stop, go}
+use Rattle.rows.specs.Rows.{scaleFault}
+use borrow.Author.Needs.{needs}
+use Rattle.rows.proofs.scale_row.Statement.{statement}
+use Rattle.rows.proofs.scale_row.Tie as tie
+
+returns : tie.Need-returns
+unfolding scaleFault
+returns c = search stop
+
+returns-2 : tie.Need-returns-2
+unfolding scaleFault
+returns-2 c = search go
+
+word-in-requires : tie.Need-word-in-requires
+word-in-requires c κs = search needs
+
+pub scale-row-spec : {M : Type 1} → statement M
+scale-row-spec = tie.close (tie.spec word-in-requires returns returns-2)

@@ -1,0 +1,20 @@
+-- `rows::zero_first` meets its contract. Assumes nothing.
+use Rattle.words.proofs.Refusals.{below, beyond}
+use Rattle.rows.specs.Rows.{zeroFirst}
+use borrow.Author.Needs.{needs}
+use Rattle.rows.proofs.zero_first.Statement.{statement}
+use Rattle.rows.proofs.zero_first.Tie as tie
+
+returns : tie.Need-returns
+unfolding zeroFirst
+returns c = search below
+
+returns-2 : tie.Need-returns-2
+unfolding zeroFirst
+returns-2 c = search beyond
+
+word-in-requires : tie.Need-word-in-requires
+word-in-requires c κs = search needs
+
+pub zero-first-spec : {M : Type 1} → statement M
+zero-first-spec = tie.close (tie.spec returns word-in-requires returns-2)
