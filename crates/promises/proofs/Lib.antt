@@ -1,3 +1,4 @@
 -- The theorems that belong to no one function.
 pub mod CasesHold
 pub mod NearestIsNearest
+pub mod OneAnswer

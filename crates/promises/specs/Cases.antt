@@ -1,10 +1,12 @@
 -- The worked figures of the Survey's sheets that are proved: each case has the figures that the definitions give, and those that are printed.
 use mathlib.Core.List.{List, [], _∷_}
-use Prim.Native.Nat.{_-_}
+use Prim.Native.Nat.{ℕ, _-_, _/_, _%_}
 use lib.IntN.{ℤ, pos, negℤ, _-ℤ_}
 use Rattle.figures.specs.Nearest.{withSign, nearest}
 use Rattle.figures.specs.Between.{between}
 use Rattle.figures.specs.Steps.{qOf, sizeOfX, rise, reduction, seconds, perSecond}
+use Rattle.words.specs.Words.{bits32}
+use Rattle.rows.specs.Rows.{latitudeFault}
 
 -- What the definitions work, figure by figure, and what is printed, in the same units.
 pub record Case : Type 0 where
@@ -57,11 +59,29 @@ naper = record {
   printed = pos 7_316 ∷ pos 7_315 ∷ [];
 }
 
--- Document 003, row 20°48′: H 94.879133, next 94.868706, so ΔH is 173.78 of its millionths (the copy reads 173.71).
+-- Words as bytes, four each, the first the highest.
+unfoldable pub bytesOf : List ℤ → List ℕ
+bytesOf [] = []
+bytesOf (w ∷ ws) = bits32 w / 16_777_216 ∷ bits32 w / 65_536 % 256 ∷ bits32 w / 256 % 256 ∷ bits32 w % 256 ∷ bytesOf ws
+
+-- Document 003's latitude rows 20°48′ and 20°49′, with dh as ΔH of the first.
+unfoldable pub from2048 : ℤ → List ℕ
+from2048 dh =
+    bytesOf (
+    pos 1_248 ∷ pos 16_949_123 ∷ pos 10_089_050 ∷ pos 94_879_133 ∷ dh ∷ pos 816_763 ∷ pos 893 ∷ negℤ (pos 933) ∷
+    pos 1_249 ∷ pos 17_554_466 ∷ pos 10_089_067 ∷ pos 94_868_706 ∷ pos 17_392 ∷ pos 817_299 ∷ pos 892 ∷ negℤ (pos 933) ∷
+    []
+    )
+
+-- Document 003, row 20°48′: H 94.879133, next 94.868706, so ΔH is 173.78 of its millionths, and the row has no fault. The copy reads 173.71: number 9.
 unfoldable pub row2048 : Case
 row2048 = record {
-  worked = perSecond 100 (pos 94_879_133 -ℤ pos 94_868_706) ∷ [];
-  printed = pos 17_378 ∷ [];
+  worked =
+      perSecond 100 (pos 94_879_133 -ℤ pos 94_868_706) ∷
+      pos (latitudeFault (from2048 (pos 17_378)) 2 0) ∷
+      pos (latitudeFault (from2048 (pos 17_371)) 2 0) ∷
+      [];
+  printed = pos 17_378 ∷ pos 0 ∷ pos 9 ∷ [];
 }
 
 -- Case sheet, y 50,000 ft: M 0.0038423, a half between 0.0038150 at 0 ft and 0.0038695 at 100,000 ft.
@@ -78,7 +98,6 @@ halfA = record {
   printed = negℤ (pos 988) ∷ negℤ (pos 988) ∷ [];
 }
 
--- The list. Still to join it, with the operations that they need: number 9 for the copy's 173.71, latitude 21°31′00.000″, and the first two points of the
--- points program's listing.
+-- The list. Still to join it, with the operations that they need: latitude 21°31′00.000″, and the first two points of the points program's listing.
 unfoldable pub starred : List Case
 starred = harvey ∷ kahela ∷ kahelaBack ∷ irish ∷ irishBack ∷ naper ∷ row2048 ∷ halfM ∷ halfA ∷ []
