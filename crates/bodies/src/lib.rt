@@ -129,19 +129,19 @@ fn body(kind: usize, b: &[u8], n: usize) -> Fault
     requires { ⌜ (1 ≤ kind) × (kind ≤ lastKind) × (4 * (n * widthOf kind) ≤ length (now b)) ⌝ }
     ensures { λ r. ⌜ r ≡ firstFault (rowFault kind (now (b .entry)) n) n 0 ⌝ }
 {
-    if kind == 1 {
+    if kind == contents::ZONE {
         return zone(b, n);
     }
-    if kind == 2 {
+    if kind == contents::LATITUDE {
         return latitude(b, n);
     }
-    if kind == 3 {
+    if kind == contents::LONGITUDE {
         return longitude(b, n);
     }
-    if kind == 4 {
+    if kind == contents::NORTHING {
         return northing(b, n);
     }
-    if kind == 5 {
+    if kind == contents::EASTING {
         return easting(b, n);
     }
     scale(b, n)
@@ -169,8 +169,8 @@ pub fn check(sheet: &[u8]) -> Verdict
     if number != 0 {
         return c;
     }
-    let mut kind = 1;
-    while kind <= 6 {
+    let mut kind = contents::ZONE;
+    while kind <= contents::LAST_KIND {
         let f = body_of(sheet, kind);
         let number = f.number;
         let row = f.place;

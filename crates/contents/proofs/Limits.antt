@@ -20,9 +20,9 @@ within-true least n most e =
     let h = both (leb least n) (leb n most) e in
     (leb-true least n (h .0), leb-true n most (h .1))
 
--- a kind that was found among the kinds has its place in the tables
-pub known-below : (kind : ℕ) (f : Bool) → f ≡ within 1 kind lastKind → not f ≡ false → kind < 7
-known-below kind f t p = let h : within 1 kind lastKind ≡ true = cc (not-false f p) in omega (arith, within-true 1 kind lastKind h)
+-- a kind that was found among the kinds is one
+pub known-below : (kind : ℕ) (f : Bool) → f ≡ within 1 kind lastKind → not f ≡ false → kind ≤ lastKind
+known-below kind f t p = let h : within 1 kind lastKind ≡ true = cc (not-false f p) in within-true 1 kind lastKind h .1
 
 -- ---- the length, in the shape of the code's test
 module _ (s : List ℕ) (f : Bool) (t : f ≡ within leastBytes (length s) mostBytes) where

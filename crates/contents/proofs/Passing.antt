@@ -87,8 +87,8 @@ module _ (s : List ℕ) (none : firstFault (entryFault s) entryCount 0 .number �
   each : (e : ℕ) → e < entryCount → Entry s e
   each e h = entry s e (rw zero-add at (all-pass (entryFault s) entryCount 0 none e h))
 
-  pub last-known : kindAt s 5 < 7
-  last-known = let k : kindAt s 5 ≤ lastKind = each 5 (omega arith) .high in omega arith
+  pub last-known : kindAt s 5 ≤ lastKind
+  last-known = each 5 (omega arith) .high
 
   pub end-is : (a b : ℕ) (f : Bool) → a ≡ startAt s 5 → b ≡ spanAt s 5 → f ≡ eqb (4 * (a + b)) (length s) → f ≡ ends s
   unfolding dueAt

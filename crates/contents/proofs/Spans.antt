@@ -34,10 +34,10 @@ unfolding dueAt
 due-next s e due span d p = rw add-one (cc)
 
 -- an entry with no fault names a kind that there is
-pub fault-known : (s : List ℕ) (e x : ℕ) → x ≡ entryFault s e → x ≡ 0 → kindAt s e < 7
+pub fault-known : (s : List ℕ) (e x : ℕ) → x ≡ entryFault s e → x ≡ 0 → kindAt s e ≤ lastKind
 unfolding entryFault need
 fault-known s e x p z = pick (within 1 (kindAt s e) lastKind) refl
   where
-    pick : (k : Bool) → within 1 (kindAt s e) lastKind ≡ k → kindAt s e < 7
-    pick true q = omega (arith, within-true 1 (kindAt s e) lastKind q)
+    pick : (k : Bool) → within 1 (kindAt s e) lastKind ≡ k → kindAt s e ≤ lastKind
+    pick true q = within-true 1 (kindAt s e) lastKind q .1
     pick false q = let two : _≡_ {A = ℕ} 2 0 = cc in absurd (omega arith)

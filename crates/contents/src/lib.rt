@@ -33,18 +33,31 @@ pub struct Places {
     pub scale: Place,
 }
 
-// The layout: entries, the words of one, the last kind, the first body's word, and the lengths in bytes.
+// The layout: entries, the words of one, the first body's word, and the lengths in bytes.
 const ENTRIES: usize = 6;
 
 const ENTRY_WORDS: usize = 3;
-
-const LAST_KIND: usize = 6;
 
 const FIRST_BODY: usize = 19;
 
 const LEAST_BYTES: usize = 76;
 
 const MOST_BYTES: usize = 65_532;
+
+// The kinds.
+pub const ZONE: usize = 1;
+
+pub const LATITUDE: usize = 2;
+
+pub const LONGITUDE: usize = 3;
+
+pub const NORTHING: usize = 4;
+
+pub const EASTING: usize = 5;
+
+pub const SCALE: usize = 6;
+
+pub const LAST_KIND: usize = SCALE;
 
 // By kind: words in a row, least rows, most rows. There is no kind 0.
 const WIDTHS: [usize; 7] = [0, 2, 8, 2, 2, 1, 1];
@@ -55,7 +68,7 @@ const MOST_ROWS: [usize; 7] = [0, 1, 1_200, 61, 100, 10, 200];
 
 // Words in a row of the kind.
 pub fn width_of(kind: usize) -> usize
-    requires { ⌜ kind < 7 ⌝ }
+    requires { ⌜ kind ≤ lastKind ⌝ }
     ensures { λ r. ⌜ r ≡ widthOf kind ⌝ }
 {
     WIDTHS[kind]
@@ -63,7 +76,7 @@ pub fn width_of(kind: usize) -> usize
 
 // The least rows that the kind may have.
 fn least_rows(kind: usize) -> usize
-    requires { ⌜ kind < 7 ⌝ }
+    requires { ⌜ kind ≤ lastKind ⌝ }
     ensures { λ r. ⌜ r ≡ leastRows kind ⌝ }
 {
     LEAST_ROWS[kind]
@@ -71,7 +84,7 @@ fn least_rows(kind: usize) -> usize
 
 // The most rows that the kind may have.
 fn most_rows(kind: usize) -> usize
-    requires { ⌜ kind < 7 ⌝ }
+    requires { ⌜ kind ≤ lastKind ⌝ }
     ensures { λ r. ⌜ r ≡ mostRows kind ⌝ }
 {
     MOST_ROWS[kind]
@@ -159,7 +172,7 @@ fn named_before(s: &[u8], e: usize) -> bool
 
 // Whether entry e's rows are within its kind's limits.
 fn rows_allowed(s: &[u8], e: usize) -> bool
-    requires { ⌜ (leastBytes ≤ length (now s)) × (e < entryCount) × (kindAt (now s) e < 7) ⌝ }
+    requires { ⌜ (leastBytes ≤ length (now s)) × (e < entryCount) × (kindAt (now s) e ≤ lastKind) ⌝ }
     ensures { λ r. ⌜ r ≡ within (leastRows (kindAt (now (s .entry)) e)) (rowsAt (now (s .entry)) e) (mostRows (kindAt (now (s .entry)) e)) ⌝ }
 {
     let kind = kind_at(s, e);
@@ -196,7 +209,7 @@ fn entry_fault(s: &[u8], e: usize, due: usize) -> u32
 
 // The words of entry e's body.
 fn span_at(s: &[u8], e: usize) -> usize
-    requires { ⌜ (leastBytes ≤ length (now s)) × (e < entryCount) × (kindAt (now s) e < 7) ⌝ }
+    requires { ⌜ (leastBytes ≤ length (now s)) × (e < entryCount) × (kindAt (now s) e ≤ lastKind) ⌝ }
     ensures { λ r. ⌜ (r ≡ spanAt (now (s .entry)) e) × (r < 34_359_738_368) ⌝ }
 {
     rows_at(s, e) * width_of(kind_at(s, e))
@@ -327,11 +340,11 @@ pub fn places_of(s: &[u8]) -> Places
     ensures { λ r. ⌜ r ≡ placesOf (now (s .entry)) ⌝ }
 {
     Places {
-        zone: place_of(s, 1),
-        latitude: place_of(s, 2),
-        longitude: place_of(s, 3),
-        northing: place_of(s, 4),
-        easting: place_of(s, 5),
-        scale: place_of(s, 6),
+        zone: place_of(s, ZONE),
+        latitude: place_of(s, LATITUDE),
+        longitude: place_of(s, LONGITUDE),
+        northing: place_of(s, NORTHING),
+        easting: place_of(s, EASTING),
+        scale: place_of(s, SCALE),
     }
 }

@@ -1,32 +1,20 @@
--- What the tests of order say of a range, and that `sameAs` is equality. Assumes nothing.
+-- What a figure in its range has, and that `sameAs` is equality. Assumes nothing.
 use mathlib.Core.Path.{_≡_, refl, sym, ap, _∙_}
 use mathlib.Core.Bool.{Bool, true, false}
 use lib.Dec.{eqb}
 use lib.IntN.{ℤ, pos, negsuc}
-use lib.Signed.{ltZ, leZ}
+use lib.Signed.{leZ}
 use borrow.Author.Tests.{eq-eqb, eqb-true, eqb-false}
 use mir.Syntax.{Width}
 use mir.Val.{SFits, toZ, ofZ}
 use mir.Facts.{toZ-ofZ}
-use Rattle.figures.proofs.Sizes.{leZ-not}
 use Rattle.rules.specs.Limits.{inRange, sameAs}
 use Rattle.rules.proofs.Tests.{both}
 
-module _ (least x most : ℤ) where
-  -- `if x < least { return false; }`
-  pub range-no : ltZ x least ≡ true → false ≡ inRange least x most
-  unfolding inRange
-  range-no h = rw (leZ-not x least, h)
-
-  -- past it, `x <= most`
-  pub range-yes : ltZ x least ≡ false → leZ x most ≡ inRange least x most
-  unfolding inRange
-  range-yes h = rw (leZ-not x least, h)
-
-  -- what a figure in its range has
-  pub range-true : inRange least x most ≡ true → (leZ least x ≡ true) × (leZ x most ≡ true)
-  unfolding inRange
-  range-true e = both (leZ least x) (leZ x most) e
+-- what a figure in its range has
+pub range-true : (least x most : ℤ) → inRange least x most ≡ true → (leZ least x ≡ true) × (leZ x most ≡ true)
+unfolding inRange
+range-true least x most e = both (leZ least x) (leZ x most) e
 
 -- ---- equality
 pub same-true : (x y : ℤ) → sameAs x y ≡ true → x ≡ y

@@ -61,9 +61,9 @@ pub figures-in : (f : Figures) → figuresInRange f ≡ true → InRange f
 unfolding figuresInRange
 figures-in f e =
     let p = both _ _ e in
-    let q = both _ _ (p .1) in
-    let r = both _ _ (q .1) in
-    record { y0 = range-size _ _ _ (p .0); h = range-size _ _ _ (q .0); v = range-size _ _ _ (r .0); a = range-most _ _ (r .1) }
+    let q = both _ _ (p .0) in
+    let r = both _ _ (q .0) in
+    record { y0 = range-size _ _ _ (r .0); h = range-size _ _ _ (r .1); v = range-size _ _ _ (q .1); a = range-most _ _ (p .1) }
 
 -- of two rows in range
 pub record Bounded (f next : Figures) : Type 0 where
@@ -76,15 +76,15 @@ pub figures-bounded : (f next : Figures) → InRange f → InRange next → with
 unfolding withinBounds
 figures-bounded f next x y e =
     let p = both _ _ e in
-    let q = both _ _ (p .1) in
-    let r = both _ _ (q .1) in
-    let up : rises (f .y0) (next .y0) (pos 600_000) (pos 615_000) ≡ true = p .0 in
-    let down : rises (next .h) (f .h) (pos 1) (pos 50_000) ≡ true = q .0 in
+    let q = both _ _ (p .0) in
+    let r = both _ _ (q .0) in
+    let up : rises (f .y0) (next .y0) (pos 600_000) (pos 615_000) ≡ true = r .0 in
+    let down : rises (next .h) (f .h) (pos 1) (pos 50_000) ≡ true = r .1 in
     record {
       y0 = rises-sizes 600_000 615_000 (natAbs (f .y0)) (natAbs (next .y0)) (rw (← x .y0 .is, ← y .y0 .is) up);
       h = rises-sizes 1 50_000 (natAbs (next .h)) (natAbs (f .h)) (rw (← x .h .is, ← y .h .is) down);
-      v = rises-most _ _ _ (r .0);
-      a = rises-most _ _ _ (r .1);
+      v = rises-most _ _ _ (q .1);
+      a = rises-most _ _ _ (p .1);
     }
 
 -- ---- its differences
@@ -92,9 +92,9 @@ pub differences-are : (e d : Differences) → sameDifferences e d ≡ true → e
 unfolding sameDifferences
 differences-are e d h =
     let p = both _ _ h in
-    let q = both _ _ (p .1) in
-    let y : e .y ≡ d .y = same-true (e .y) (d .y) (p .0) in
-    let h : e .h ≡ d .h = same-true (e .h) (d .h) (q .0) in
-    let v : e .v ≡ d .v = same-true (e .v) (d .v) (q .1) in
+    let q = both _ _ (p .0) in
+    let y : e .y ≡ d .y = same-true (e .y) (d .y) (q .0) in
+    let h : e .h ≡ d .h = same-true (e .h) (d .h) (q .1) in
+    let v : e .v ≡ d .v = same-true (e .v) (d .v) (p .1) in
     let same : _≡_ {A = Differences} (record { y = e .y; h = e .h; v = e .v }) (record { y = d .y; h = d .h; v = d .v }) = rw (y, h, v) in
     same

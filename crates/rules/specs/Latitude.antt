@@ -10,18 +10,18 @@ use Rattle.rules.specs.Limits.{inRange, rises, sameAs}
 unfoldable pub figuresInRange : Figures → Bool
 figuresInRange f =
     inRange (pos 0) (f .y0) (pos 999_999_999)
-    && (inRange (pos 30_000_000) (f .h) (pos 102_000_000)
-    && (inRange (pos 0) (f .v) (pos 1_400_000)
-    && inRange (negℤ (pos 2_000)) (f .a) (pos 2_000)))
+    && inRange (pos 30_000_000) (f .h) (pos 102_000_000)
+    && inRange (pos 0) (f .v) (pos 1_400_000)
+    && inRange (negℤ (pos 2_000)) (f .a) (pos 2_000)
 
 -- "Between a latitude row and the next: [..] y0 rises by 600,000 to 615,000; H falls by 1 to 50,000; V differs by at most 1,000 and a by at most 10."
 -- H's fall is the rise from the next row's H to this one's.
 unfoldable pub withinBounds : Figures → Figures → Bool
 withinBounds f next =
     rises (f .y0) (next .y0) (pos 600_000) (pos 615_000)
-    && (rises (next .h) (f .h) (pos 1) (pos 50_000)
-    && (rises (f .v) (next .v) (negℤ (pos 1_000)) (pos 1_000)
-    && rises (f .a) (next .a) (negℤ (pos 10)) (pos 10)))
+    && rises (next .h) (f .h) (pos 1) (pos 50_000)
+    && rises (f .v) (next .v) (negℤ (pos 1_000)) (pos 1_000)
+    && rises (f .a) (next .a) (negℤ (pos 10)) (pos 10)
 
 -- "Δy, ΔH and ΔV are the differences over 60 seconds: nearest whole to 1000(y0 next − y0)/60, 100(H − H next)/60, 100(V next − V)/60
 -- (no half can occur)"
@@ -38,4 +38,4 @@ noDifferences = record { y = pos 0; h = pos 0; v = pos 0 }
 
 -- e's three are d's three.
 unfoldable pub sameDifferences : Differences → Differences → Bool
-sameDifferences e d = sameAs (e .y) (d .y) && (sameAs (e .h) (d .h) && sameAs (e .v) (d .v))
+sameDifferences e d = sameAs (e .y) (d .y) && sameAs (e .h) (d .h) && sameAs (e .v) (d .v)

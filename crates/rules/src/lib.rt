@@ -26,10 +26,7 @@ pub struct Differences {
 pub fn in_range(least: i32, x: i32, most: i32) -> bool
     ensures { λ r. ⌜ r ≡ inRange least x most ⌝ }
 {
-    if x < least {
-        return false;
-    }
-    x <= most
+    (least <= x) & (x <= most)
 }
 
 // Whether a row's figure x rises to the next row's by least to most.
@@ -37,10 +34,7 @@ pub fn rises(x: i32, next: i32, least: i32, most: i32) -> bool
     ensures { λ r. ⌜ r ≡ rises x next least most ⌝ }
 {
     let rise = (next as i64) - (x as i64);
-    if rise < (least as i64) {
-        return false;
-    }
-    rise <= (most as i64)
+    ((least as i64) <= rise) & (rise <= (most as i64))
 }
 
 // Whether x is y.
@@ -54,32 +48,20 @@ fn same_as(x: i64, y: i64) -> bool
 pub fn figures_in_range(f: Figures) -> bool
     ensures { λ r. ⌜ r ≡ figuresInRange f ⌝ }
 {
-    if !in_range(0, f.y0, 999_999_999) {
-        return false;
-    }
-    if !in_range(30_000_000, f.h, 102_000_000) {
-        return false;
-    }
-    if !in_range(0, f.v, 1_400_000) {
-        return false;
-    }
-    in_range(-2_000, f.a, 2_000)
+    in_range(0, f.y0, 999_999_999)
+        & in_range(30_000_000, f.h, 102_000_000)
+        & in_range(0, f.v, 1_400_000)
+        & in_range(-2_000, f.a, 2_000)
 }
 
 // Whether a latitude row's figures are within their bounds with the next row's.
 pub fn within_bounds(f: Figures, next: Figures) -> bool
     ensures { λ r. ⌜ r ≡ withinBounds f next ⌝ }
 {
-    if !rises(f.y0, next.y0, 600_000, 615_000) {
-        return false;
-    }
-    if !rises(next.h, f.h, 1, 50_000) {
-        return false;
-    }
-    if !rises(f.v, next.v, -1_000, 1_000) {
-        return false;
-    }
-    rises(f.a, next.a, -10, 10)
+    rises(f.y0, next.y0, 600_000, 615_000)
+        & rises(next.h, f.h, 1, 50_000)
+        & rises(f.v, next.v, -1_000, 1_000)
+        & rises(f.a, next.a, -10, 10)
 }
 
 // The difference from x to next, over 60 seconds, scaled to its column's unit.
@@ -112,11 +94,5 @@ pub fn no_differences() -> Differences
 pub fn same_differences(e: Differences, d: Differences) -> bool
     ensures { λ r. ⌜ r ≡ sameDifferences e d ⌝ }
 {
-    if !same_as(e.y, d.y) {
-        return false;
-    }
-    if !same_as(e.h, d.h) {
-        return false;
-    }
-    same_as(e.v, d.v)
+    same_as(e.y, d.y) & same_as(e.h, d.h) & same_as(e.v, d.v)
 }

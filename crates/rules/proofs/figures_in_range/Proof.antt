@@ -1,11 +1,10 @@
 -- `rules::figures_in_range` meets its contract. Assumes nothing.
-use mathlib.Core.Path.{_≡_, ap, _∙_}
-use lib.IntN.{ℤ, pos, negℤ}
+use mathlib.Core.Path.{_≡_, _∙_}
+use lib.IntN.{pos, negℤ}
 use mir.Syntax.{w32}
 use mir.Val.{toZ, ofZ}
 use Rattle.rules.specs.Limits.{inRange}
 use Rattle.rules.specs.Latitude.{figuresInRange}
-use Rattle.rules.proofs.Tests.{fails, holds}
 use borrow.Author.Needs.{needs}
 use Rattle.rules.proofs.figures_in_range.Statement.{statement}
 use Rattle.rules.proofs.figures_in_range.Tie as tie
@@ -13,38 +12,26 @@ use Rattle.rules.proofs.figures_in_range.Tie as tie
 y0-tested : (c : tie.After-in-range) → c .in-range .result ≡ inRange (pos 0) (c .before .before .args .f .y0) (pos 999_999_999)
 y0-tested c =
     let read : toZ w32 (ofZ w32 (c .before .before .args .f .y0)) ≡ c .before .before .args .f .y0 = search needs in
-    c .in-range .ensures ∙ ap (λ (z : ℤ). inRange (pos 0) z (pos 999_999_999)) read
+    c .in-range .ensures ∙ rw read
 
-h-tested : (c : tie.After-in-range2) → c .in-range2 .result ≡ inRange (pos 30_000_000) (c .before .before .before .before .before .args .f .h) (pos 102_000_000)
+h-tested : (c : tie.After-in-range2) → c .in-range2 .result ≡ inRange (pos 30_000_000) (c .before .before .before .before .args .f .h) (pos 102_000_000)
 h-tested c =
-    let read : toZ w32 (ofZ w32 (c .before .before .before .before .before .args .f .h)) ≡ c .before .before .before .before .before .args .f .h = search needs in
-    c .in-range2 .ensures ∙ ap (λ (z : ℤ). inRange (pos 30_000_000) z (pos 102_000_000)) read
+    let read : toZ w32 (ofZ w32 (c .before .before .before .before .args .f .h)) ≡ c .before .before .before .before .args .f .h = search needs in
+    c .in-range2 .ensures ∙ rw read
 
-v-tested : (c : tie.After-in-range3) → c .in-range3 .result ≡ inRange (pos 0) (c .before .before .before .before .before .before .before .before .args .f .v) (pos 1_400_000)
+v-tested : (c : tie.After-in-range3) → c .in-range3 .result ≡ inRange (pos 0) (c .before .before .before .before .before .before .args .f .v) (pos 1_400_000)
 v-tested c =
-    let read : toZ w32 (ofZ w32 (c .before .before .before .before .before .before .before .before .args .f .v)) ≡ c .before .before .before .before .before .before .before .before .args .f .v = search needs in
-    c .in-range3 .ensures ∙ ap (λ (z : ℤ). inRange (pos 0) z (pos 1_400_000)) read
+    let read : toZ w32 (ofZ w32 (c .before .before .before .before .before .before .args .f .v)) ≡ c .before .before .before .before .before .before .args .f .v = search needs in
+    c .in-range3 .ensures ∙ rw read
 
-a-tested : (c : tie.After-in-range4) → c .in-range4 .result ≡ inRange (negℤ (pos 2_000)) (c .before .before .before .before .before .before .before .before .before .before .before .args .f .a) (pos 2_000)
+a-tested : (c : tie.After-in-range4) → c .in-range4 .result ≡ inRange (negℤ (pos 2_000)) (c .before .before .before .before .before .before .before .before .args .f .a) (pos 2_000)
 a-tested c =
-    let read : toZ w32 (ofZ w32 (c .before .before .before .before .before .before .before .before .before .before .before .args .f .a)) ≡ c .before .before .before .before .before .before .before .before .before .before .before .args .f .a = search needs in
-    c .in-range4 .ensures ∙ ap (λ (z : ℤ). inRange (negℤ (pos 2_000)) z (pos 2_000)) read
+    let read : toZ w32 (ofZ w32 (c .before .before .before .before .before .before .before .before .args .f .a)) ≡ c .before .before .before .before .before .before .before .before .args .f .a = search needs in
+    c .in-range4 .ensures ∙ rw read
 
 returns : tie.Need-returns
 unfolding figuresInRange
-returns c = fails _ _ _ (y0-tested (c .before)) (c .if1 .taken)
-
-returns-2 : tie.Need-returns-2
-unfolding figuresInRange
-returns-2 c = holds _ _ _ _ (y0-tested (c .before .before .before .before)) (c .before .before .before .if1 .left) (fails _ _ _ (h-tested (c .before)) (c .if2 .taken))
-
-returns-3 : tie.Need-returns-3
-unfolding figuresInRange
-returns-3 c = holds _ _ _ _ (y0-tested (c .before .before .before .before .before .before .before)) (c .before .before .before .before .before .before .if1 .left) (holds _ _ _ _ (h-tested (c .before .before .before .before)) (c .before .before .before .if2 .left) (fails _ _ _ (v-tested (c .before)) (c .if3 .taken)))
-
-returns-4 : tie.Need-returns-4
-unfolding figuresInRange
-returns-4 c = holds _ _ _ _ (y0-tested (c .before .before .before .before .before .before .before .before .before)) (c .before .before .before .before .before .before .before .before .if1 .left) (holds _ _ _ _ (h-tested (c .before .before .before .before .before .before)) (c .before .before .before .before .before .if2 .left) (holds _ _ _ _ (v-tested (c .before .before .before)) (c .before .before .if3 .left) (a-tested c)))
+returns c = cc (y0-tested (c .before .before .before .before .before .before), h-tested (c .before .before .before .before), v-tested (c .before .before), a-tested c)
 
 in-range-requires : tie.Need-in-range-requires
 in-range-requires c κs = search needs
@@ -63,10 +50,7 @@ figures-in-range-spec =
     tie.close
     (tie.spec
     in-range-requires
-    returns
     in-range-requires-2
-    returns-2
     in-range-requires-3
-    returns-3
     in-range-requires-4
-    returns-4)
+    returns)

@@ -1,8 +1,8 @@
 -- `rules::in_range` meets its contract. Assumes nothing.
 use mir.Syntax.{w32}
 use mir.Val.{ofZ}
-use Rattle.figures.proofs.Holds.{Holds, held, size-i32, less}
-use Rattle.rules.proofs.Ranges.{range-no, range-yes}
+use Rattle.figures.proofs.Holds.{Holds, held, size-i32}
+use Rattle.rules.specs.Limits.{inRange}
 use Rattle.rules.proofs.in_range.Statement.{statement}
 use Rattle.rules.proofs.in_range.Tie as tie
 
@@ -17,12 +17,8 @@ module _ (c : tie.Start) where
   most = held (c .fits .most) (size-i32 (c .fits .most))
 
 returns : tie.Need-returns
-returns c = let a = c .before in range-no (a .args .least) (a .args .x) (a .args .most) (less (x a) (least a) (c .if1 .taken))
-
-returns-2 : tie.Need-returns-2
-returns-2 c =
-    let a = c .before in
-    rw (x a .is, most a .is) (range-yes (a .args .least) (a .args .x) (a .args .most) (less (x a) (least a) (c .if1 .left)))
+unfolding inRange
+returns c = rw (x c .is, least c .is, most c .is)
 
 pub in-range-spec : {M : Type 1} → statement M
-in-range-spec = tie.close (tie.spec returns returns-2)
+in-range-spec = tie.close (tie.spec returns)

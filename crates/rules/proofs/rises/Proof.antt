@@ -2,9 +2,8 @@
 use lib.IntN.{_-ℤ_}
 use mir.Syntax.{w32, w64}
 use mir.Val.{ofZ, toZ}
-use Rattle.figures.proofs.Holds.{Holds, held, size-i32, cast, cast-fits, difference, difference-fits, less}
-use Rattle.rules.specs.Limits.{rises}
-use Rattle.rules.proofs.Ranges.{range-no, range-yes}
+use Rattle.figures.proofs.Holds.{Holds, held, size-i32, cast, cast-fits, difference, difference-fits}
+use Rattle.rules.specs.Limits.{inRange, rises}
 use Rattle.rules.proofs.rises.Statement.{statement}
 use Rattle.rules.proofs.rises.Tie as tie
 
@@ -25,16 +24,8 @@ module _ (c : tie.Start) where
   rise = difference (cast next tt) (cast x tt) tt
 
 returns : tie.Need-returns
-unfolding rises
-returns c =
-    let a = c .before in
-    range-no (a .args .least) (a .args .next -ℤ a .args .x) (a .args .most) (less (rise a) (cast (least a) tt) (c .if1 .taken))
-
-returns-2 : tie.Need-returns-2
-unfolding rises
-returns-2 c =
-    let a = c .before in
-    rw (rise a .is, cast (most a) {v = w64} tt .is) (range-yes (a .args .least) (a .args .next -ℤ a .args .x) (a .args .most) (less (rise a) (cast (least a) tt) (c .if1 .left)))
+unfolding rises inRange
+returns c = rw (rise c .is, cast (least c) {v = w64} tt .is, cast (most c) {v = w64} tt .is)
 
 cast-rise : tie.Need-cast-rise
 cast-rise c = cast-fits (next c) tt
@@ -45,12 +36,11 @@ cast-rise-2 c = cast-fits (x c) tt
 sub-rise : tie.Need-sub-rise
 sub-rise c = difference-fits (cast (next c) tt) (cast (x c) tt) tt
 
-cast-if1 : tie.Need-cast-if1
-cast-if1 c = cast-fits (least c) tt
-
 cast-result : tie.Need-cast-result
-cast-result c = cast-fits (most (c .before)) tt
+cast-result c = cast-fits (least c) tt
+
+cast-result-2 : tie.Need-cast-result-2
+cast-result-2 c = cast-fits (most c) tt
 
 pub rises-spec : {M : Type 1} → statement M
-rises-spec =
-    tie.close (tie.spec cast-rise cast-rise-2 sub-rise cast-if1 returns cast-result returns-2)
+rises-spec = tie.close (tie.spec cast-rise cast-rise-2 sub-rise cast-result cast-result-2 returns)

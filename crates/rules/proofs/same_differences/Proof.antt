@@ -4,7 +4,6 @@ use mir.Syntax.{w64}
 use mir.Val.{toZ, ofZ}
 use Rattle.rules.specs.Limits.{sameAs}
 use Rattle.rules.specs.Latitude.{sameDifferences}
-use Rattle.rules.proofs.Tests.{fails, holds}
 use borrow.Author.Needs.{needs}
 use Rattle.rules.proofs.same_differences.Statement.{statement}
 use Rattle.rules.proofs.same_differences.Tie as tie
@@ -15,29 +14,21 @@ y-tested c =
     let second : toZ w64 (ofZ w64 (c .before .before .before .args .d .y)) ≡ c .before .before .before .args .d .y = search needs in
     c .same-as .ensures ∙ rw (first, second)
 
-h-tested : (c : tie.After-same-as2) → c .same-as2 .result ≡ sameAs (c .before .before .before .before .before .before .before .args .e .h) (c .before .before .before .before .before .before .before .args .d .h)
+h-tested : (c : tie.After-same-as2) → c .same-as2 .result ≡ sameAs (c .before .before .before .before .before .before .args .e .h) (c .before .before .before .before .before .before .args .d .h)
 h-tested c =
-    let first : toZ w64 (ofZ w64 (c .before .before .before .before .before .before .before .args .e .h)) ≡ c .before .before .before .before .before .before .before .args .e .h = search needs in
-    let second : toZ w64 (ofZ w64 (c .before .before .before .before .before .before .before .args .d .h)) ≡ c .before .before .before .before .before .before .before .args .d .h = search needs in
+    let first : toZ w64 (ofZ w64 (c .before .before .before .before .before .before .args .e .h)) ≡ c .before .before .before .before .before .before .args .e .h = search needs in
+    let second : toZ w64 (ofZ w64 (c .before .before .before .before .before .before .args .d .h)) ≡ c .before .before .before .before .before .before .args .d .h = search needs in
     c .same-as2 .ensures ∙ rw (first, second)
 
-v-tested : (c : tie.After-same-as3) → c .same-as3 .result ≡ sameAs (c .before .before .before .before .before .before .before .before .before .before .before .args .e .v) (c .before .before .before .before .before .before .before .before .before .before .before .args .d .v)
+v-tested : (c : tie.After-same-as3) → c .same-as3 .result ≡ sameAs (c .before .before .before .before .before .before .before .before .before .args .e .v) (c .before .before .before .before .before .before .before .before .before .args .d .v)
 v-tested c =
-    let first : toZ w64 (ofZ w64 (c .before .before .before .before .before .before .before .before .before .before .before .args .e .v)) ≡ c .before .before .before .before .before .before .before .before .before .before .before .args .e .v = search needs in
-    let second : toZ w64 (ofZ w64 (c .before .before .before .before .before .before .before .before .before .before .before .args .d .v)) ≡ c .before .before .before .before .before .before .before .before .before .before .before .args .d .v = search needs in
+    let first : toZ w64 (ofZ w64 (c .before .before .before .before .before .before .before .before .before .args .e .v)) ≡ c .before .before .before .before .before .before .before .before .before .args .e .v = search needs in
+    let second : toZ w64 (ofZ w64 (c .before .before .before .before .before .before .before .before .before .args .d .v)) ≡ c .before .before .before .before .before .before .before .before .before .args .d .v = search needs in
     c .same-as3 .ensures ∙ rw (first, second)
 
 returns : tie.Need-returns
 unfolding sameDifferences
-returns c = fails _ _ _ (y-tested (c .before)) (c .if1 .taken)
-
-returns-2 : tie.Need-returns-2
-unfolding sameDifferences
-returns-2 c = holds _ _ _ _ (y-tested (c .before .before .before .before .before)) (c .before .before .before .before .if1 .left) (fails _ _ _ (h-tested (c .before)) (c .if2 .taken))
-
-returns-3 : tie.Need-returns-3
-unfolding sameDifferences
-returns-3 c = holds _ _ _ _ (y-tested (c .before .before .before .before .before .before .before .before)) (c .before .before .before .before .before .before .before .if1 .left) (holds _ _ _ _ (h-tested (c .before .before .before .before)) (c .before .before .before .if2 .left) (v-tested c))
+returns c = cc (y-tested (c .before .before .before .before .before .before), h-tested (c .before .before .before), v-tested c)
 
 same-as-requires : tie.Need-same-as-requires
 same-as-requires c κs = search needs
@@ -50,5 +41,4 @@ same-as-requires-3 c κs = search needs
 
 pub same-differences-spec : {M : Type 1} → statement M
 same-differences-spec =
-    tie.close
-    (tie.spec same-as-requires returns same-as-requires-2 returns-2 same-as-requires-3 returns-3)
+    tie.close (tie.spec same-as-requires same-as-requires-2 same-as-requires-3 returns)

@@ -5,7 +5,6 @@ use mir.Syntax.{w32}
 use mir.Val.{toZ, ofZ}
 use Rattle.rules.specs.Limits.{rises}
 use Rattle.rules.specs.Latitude.{withinBounds}
-use Rattle.rules.proofs.Tests.{fails, holds}
 use borrow.Author.Needs.{needs}
 use Rattle.rules.proofs.within_bounds.Statement.{statement}
 use Rattle.rules.proofs.within_bounds.Tie as tie
@@ -16,39 +15,27 @@ y0-tested c =
     let second : toZ w32 (ofZ w32 (c .before .before .before .args .next .y0)) ≡ c .before .before .before .args .next .y0 = search needs in
     c .rises .ensures ∙ rw (first, second)
 
-h-tested : (c : tie.After-rises2) → c .rises2 .result ≡ rises (c .before .before .before .before .before .before .before .args .next .h) (c .before .before .before .before .before .before .before .args .f .h) (pos 1) (pos 50_000)
+h-tested : (c : tie.After-rises2) → c .rises2 .result ≡ rises (c .before .before .before .before .before .before .args .next .h) (c .before .before .before .before .before .before .args .f .h) (pos 1) (pos 50_000)
 h-tested c =
-    let first : toZ w32 (ofZ w32 (c .before .before .before .before .before .before .before .args .next .h)) ≡ c .before .before .before .before .before .before .before .args .next .h = search needs in
-    let second : toZ w32 (ofZ w32 (c .before .before .before .before .before .before .before .args .f .h)) ≡ c .before .before .before .before .before .before .before .args .f .h = search needs in
+    let first : toZ w32 (ofZ w32 (c .before .before .before .before .before .before .args .next .h)) ≡ c .before .before .before .before .before .before .args .next .h = search needs in
+    let second : toZ w32 (ofZ w32 (c .before .before .before .before .before .before .args .f .h)) ≡ c .before .before .before .before .before .before .args .f .h = search needs in
     c .rises2 .ensures ∙ rw (first, second)
 
-v-tested : (c : tie.After-rises3) → c .rises3 .result ≡ rises (c .before .before .before .before .before .before .before .before .before .before .before .args .f .v) (c .before .before .before .before .before .before .before .before .before .before .before .args .next .v) (negℤ (pos 1_000)) (pos 1_000)
+v-tested : (c : tie.After-rises3) → c .rises3 .result ≡ rises (c .before .before .before .before .before .before .before .before .before .args .f .v) (c .before .before .before .before .before .before .before .before .before .args .next .v) (negℤ (pos 1_000)) (pos 1_000)
 v-tested c =
-    let first : toZ w32 (ofZ w32 (c .before .before .before .before .before .before .before .before .before .before .before .args .f .v)) ≡ c .before .before .before .before .before .before .before .before .before .before .before .args .f .v = search needs in
-    let second : toZ w32 (ofZ w32 (c .before .before .before .before .before .before .before .before .before .before .before .args .next .v)) ≡ c .before .before .before .before .before .before .before .before .before .before .before .args .next .v = search needs in
+    let first : toZ w32 (ofZ w32 (c .before .before .before .before .before .before .before .before .before .args .f .v)) ≡ c .before .before .before .before .before .before .before .before .before .args .f .v = search needs in
+    let second : toZ w32 (ofZ w32 (c .before .before .before .before .before .before .before .before .before .args .next .v)) ≡ c .before .before .before .before .before .before .before .before .before .args .next .v = search needs in
     c .rises3 .ensures ∙ rw (first, second)
 
-a-tested : (c : tie.After-rises4) → c .rises4 .result ≡ rises (c .before .before .before .before .before .before .before .before .before .before .before .before .before .before .before .args .f .a) (c .before .before .before .before .before .before .before .before .before .before .before .before .before .before .before .args .next .a) (negℤ (pos 10)) (pos 10)
+a-tested : (c : tie.After-rises4) → c .rises4 .result ≡ rises (c .before .before .before .before .before .before .before .before .before .before .before .before .args .f .a) (c .before .before .before .before .before .before .before .before .before .before .before .before .args .next .a) (negℤ (pos 10)) (pos 10)
 a-tested c =
-    let first : toZ w32 (ofZ w32 (c .before .before .before .before .before .before .before .before .before .before .before .before .before .before .before .args .f .a)) ≡ c .before .before .before .before .before .before .before .before .before .before .before .before .before .before .before .args .f .a = search needs in
-    let second : toZ w32 (ofZ w32 (c .before .before .before .before .before .before .before .before .before .before .before .before .before .before .before .args .next .a)) ≡ c .before .before .before .before .before .before .before .before .before .before .before .before .before .before .before .args .next .a = search needs in
+    let first : toZ w32 (ofZ w32 (c .before .before .before .before .before .before .before .before .before .before .before .before .args .f .a)) ≡ c .before .before .before .before .before .before .before .before .before .before .before .before .args .f .a = search needs in
+    let second : toZ w32 (ofZ w32 (c .before .before .before .before .before .before .before .before .before .before .before .before .args .next .a)) ≡ c .before .before .before .before .before .before .before .before .before .before .before .before .args .next .a = search needs in
     c .rises4 .ensures ∙ rw (first, second)
 
 returns : tie.Need-returns
 unfolding withinBounds
-returns c = fails _ _ _ (y0-tested (c .before)) (c .if1 .taken)
-
-returns-2 : tie.Need-returns-2
-unfolding withinBounds
-returns-2 c = holds _ _ _ _ (y0-tested (c .before .before .before .before .before)) (c .before .before .before .before .if1 .left) (fails _ _ _ (h-tested (c .before)) (c .if2 .taken))
-
-returns-3 : tie.Need-returns-3
-unfolding withinBounds
-returns-3 c = holds _ _ _ _ (y0-tested (c .before .before .before .before .before .before .before .before .before)) (c .before .before .before .before .before .before .before .before .if1 .left) (holds _ _ _ _ (h-tested (c .before .before .before .before .before)) (c .before .before .before .before .if2 .left) (fails _ _ _ (v-tested (c .before)) (c .if3 .taken)))
-
-returns-4 : tie.Need-returns-4
-unfolding withinBounds
-returns-4 c = holds _ _ _ _ (y0-tested (c .before .before .before .before .before .before .before .before .before .before .before .before)) (c .before .before .before .before .before .before .before .before .before .before .before .if1 .left) (holds _ _ _ _ (h-tested (c .before .before .before .before .before .before .before .before)) (c .before .before .before .before .before .before .before .if2 .left) (holds _ _ _ _ (v-tested (c .before .before .before .before)) (c .before .before .before .if3 .left) (a-tested c)))
+returns c = cc (y0-tested (c .before .before .before .before .before .before .before .before .before), h-tested (c .before .before .before .before .before .before), v-tested (c .before .before .before), a-tested c)
 
 rises-requires : tie.Need-rises-requires
 rises-requires c κs = search needs
@@ -64,13 +51,4 @@ rises-requires-4 c κs = search needs
 
 pub within-bounds-spec : {M : Type 1} → statement M
 within-bounds-spec =
-    tie.close
-    (tie.spec
-    rises-requires
-    returns
-    rises-requires-2
-    returns-2
-    rises-requires-3
-    returns-3
-    rises-requires-4
-    returns-4)
+    tie.close (tie.spec rises-requires rises-requires-2 rises-requires-3 rises-requires-4 returns)
