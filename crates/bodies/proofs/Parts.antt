@@ -1,7 +1,7 @@
 -- A body as it is lent to its checker: it has the rows that its kind's checker asks for, and it is the part of the sheet that the contents say. Assumes nothing.
 use mathlib.Core.Path.{_≡_, ap, _∙_}
 use mathlib.Core.List.{List}
-use Prim.Native.Nat.{ℕ, _+_, _*_, _-_, _≤_}
+use Prim.Native.Nat.{ℕ, _+_, _*_, _-_, _<_, _≤_}
 use native.Mathlib.Omega.{arith}
 use lib.ListN.{length, take, drop, length-take, length-drop}
 use mir.Syntax.{w64}
@@ -13,7 +13,7 @@ use Rattle.contents.specs.declared.Place.{Place}
 use Rattle.contents.specs.Layout.{lastKind, leastBytes, mostBytes, widthOf}
 use Rattle.contents.specs.Entries.{placeOf}
 use Rattle.contents.specs.Contents.{contentsOf}
-use Rattle.contents.proofs.Passing.{passed, body-within}
+use Rattle.contents.proofs.Passing.{passed, rows-some, body-within}
 use Rattle.bodies.specs.Check.{rowFault, faultOf}
 
 -- ---- rows enough, once the kind is known
@@ -51,6 +51,10 @@ module _ (s : List ℕ) (kind : ℕ) (z : contentsOf s .number ≡ 0) (l : 1 ≤
 
     short : 4 * p .start + 4 * (p .rows * width) ≤ mostBytes
     short = omega (arith, part-within, passed s z .short)
+
+    -- it has a row
+    pub part-some : 0 < p .rows
+    part-some = rw e (rows-some s z kind l h)
 
     -- so that its ends are small numbers
     pub words-fit : Fits w64 (p .rows * width)

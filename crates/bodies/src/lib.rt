@@ -2,7 +2,7 @@
 use contents::Verdict;
 use words::Fault;
 ghost use mathlib.Core.Path.{_≡_};
-ghost use Prim.Native.Nat.{_*_, _≤_};
+ghost use Prim.Native.Nat.{_*_, _<_, _≤_};
 ghost use lib.ListN.{length};
 ghost use Rattle.words.specs.Faults.{firstFault};
 ghost use Rattle.contents.specs.Layout.{lastKind, widthOf};
@@ -29,18 +29,25 @@ fn zone(b: &[u8], n: usize) -> Fault
     }
 }
 
-// The first fault of a latitude body of n rows.
+// The first fault of a latitude body of n rows. Each row is read once: it is judged beside the next, and the next then takes its place.
 fn latitude(b: &[u8], n: usize) -> Fault
-    requires { ⌜ 32 * n ≤ length (now b) ⌝ }
+    requires { ⌜ (32 * n ≤ length (now b)) × (0 < n) ⌝ }
     ensures { λ r. ⌜ r ≡ firstFault (latitudeFault (now (b .entry)) n) n 0 ⌝ }
 {
+    let mut row = rows::row_at(b, 0);
     let mut i = 0;
-    while i < n {
-        let number = rows::latitude_row(b, n, i);
+    while i + 1 < n {
+        let next = rows::row_at(b, i + 1);
+        let number = rows::latitude_row(row, next);
         if number != 0 {
             return Fault { number, place: i };
         }
+        row = next;
         i += 1;
+    }
+    let number = rows::last_latitude_row(row);
+    if number != 0 {
+        return Fault { number, place: i };
     }
     Fault {
         number: 0,
@@ -126,7 +133,7 @@ fn scale(b: &[u8], n: usize) -> Fault
 
 // The first fault of a body of the kind, with n rows: its kind's checker judges it.
 fn body(kind: usize, b: &[u8], n: usize) -> Fault
-    requires { ⌜ (1 ≤ kind) × (kind ≤ lastKind) × (4 * (n * widthOf kind) ≤ length (now b)) ⌝ }
+    requires { ⌜ (1 ≤ kind) × (kind ≤ lastKind) × (4 * (n * widthOf kind) ≤ length (now b)) × (0 < n) ⌝ }
     ensures { λ r. ⌜ r ≡ firstFault (rowFault kind (now (b .entry)) n) n 0 ⌝ }
 {
     if kind == contents::ZONE {

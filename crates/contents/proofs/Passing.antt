@@ -5,7 +5,7 @@ use mathlib.Core.List.{List}
 use Prim.Native.Nat.{ℕ, zero, suc, _+_, _*_, _-_, _%_, _<_, _≤_}
 use native.Mathlib.Nat.{zero-add, suc-add}
 use native.Mathlib.Omega.{arith}
-use lib.Dec.{eqb}
+use lib.Dec.{eqb, lit<}
 use lib.ListN.{length}
 use borrow.Author.Tests.{eq-eqb, eqb-true, not-true}
 use Rattle.words.specs.Words.{unsignedAt}
@@ -97,6 +97,16 @@ module _ (s : List ℕ) (none : firstFault (entryFault s) entryCount 0 .number �
       e ∙ ap (λ (n : ℕ). eqb (4 * n) (length s)) due
 
 -- ---- each kind's body
+least-some : (k : ℕ) → 1 ≤ k → k ≤ lastKind → 0 < leastRows k
+least-some zero l h = absurd (omega arith)
+least-some (suc zero) l h = lit< tt
+least-some (suc (suc zero)) l h = lit< tt
+least-some (suc (suc (suc zero))) l h = lit< tt
+least-some (suc (suc (suc (suc zero)))) l h = lit< tt
+least-some (suc (suc (suc (suc (suc zero))))) l h = lit< tt
+least-some (suc (suc (suc (suc (suc (suc zero)))))) l h = lit< tt
+least-some (suc (suc (suc (suc (suc (suc (suc k))))))) l h = absurd (omega arith)
+
 -- where a body is due, no later one is due before
 due-rises : (s : List ℕ) (e d : ℕ) → dueAt s e ≤ dueAt s (d + e)
 unfolding dueAt
@@ -112,6 +122,9 @@ module _ (s : List ℕ) (z : contentsOf s .number ≡ 0) (k : ℕ) (l : 1 ≤ k)
 
   pub rows-least : leastRows k ≤ rowsOf s k
   rows-least = rw (its-entry .1) at (passed s z .entries (entryOf s k entryCount) (its-entry .0) .least)
+
+  pub rows-some : 0 < rowsOf s k
+  rows-some = omega (arith, rows-least, least-some k l h)
 
   pub rows-most : rowsOf s k ≤ mostRows k
   rows-most = rw (its-entry .1) at (passed s z .entries (entryOf s k entryCount) (its-entry .0) .most)

@@ -67,6 +67,10 @@ mostGap = 1_000_000_000
 abbrev pub mostScale : ℕ
 mostScale = 1_000
 
+-- The change of a latitude figure to the next row, where their bounds hold: y0's is the greatest, 615,000.
+abbrev pub mostChange : ℕ
+mostChange = 1_000_000
+
 -- what `nearest` divides, and by what: so that twice the one and the other together fit 64 bits
 abbrev pub mostNumerator : ℕ
 mostNumerator = 8_000_000_000_000_000_000

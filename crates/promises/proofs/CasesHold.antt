@@ -8,9 +8,9 @@ use Rattle.words.specs.Words.{unsignedAt, signed32, wordAt, bits32}
 use Rattle.words.specs.Ladder.{need, whereBelow}
 use Rattle.rules.specs.Limits.{inRange, rises, sameAs}
 use Rattle.rules.specs.Latitude.{figuresInRange, withinBounds, differencesOf, noDifferences, sameDifferences}
-use Rattle.rows.specs.Rows.{figuresAt, differencesAt, latitudeFault}
+use Rattle.rows.specs.Rows.{figuresAt, differencesAt, rowInRange, pairFault, lastFault, latitudeFault}
 use Rattle.promises.specs.Cases.{Case, starred, harvey, kahela, kahelaBack, irish, irishBack, naper, bytesOf, from2048, row2048, halfM, halfA}
 
 pub cases-hold : map (λ (c : Case). c .worked) starred ≡ map (λ (c : Case). c .printed) starred
-unfolding withSign nearestSize nearest between qOf sizeOfX rise reduction seconds perSecond unsignedAt signed32 wordAt bits32 need whereBelow inRange rises sameAs figuresInRange withinBounds differencesOf noDifferences sameDifferences figuresAt differencesAt latitudeFault bytesOf from2048 starred harvey kahela kahelaBack irish irishBack naper row2048 halfM halfA
+unfolding withSign nearestSize nearest between qOf sizeOfX rise reduction seconds perSecond unsignedAt signed32 wordAt bits32 need whereBelow inRange rises sameAs figuresInRange withinBounds differencesOf noDifferences sameDifferences figuresAt differencesAt rowInRange pairFault lastFault latitudeFault bytesOf from2048 starred harvey kahela kahelaBack irish irishBack naper row2048 halfM halfA
 cases-hold = refl

@@ -9,10 +9,11 @@ use lib.IntN.{ℤ, pos, natAbs, _-ℤ_, -ℤ-+ℤ-cancel}
 use Rattle.figures.proofs.Sizes.{size-sum}
 use Rattle.words.specs.Words.{wordAt}
 use Rattle.words.proofs.Refusals.{where-beyond}
-use Rattle.rules.specs.Limits.{inRange}
-use Rattle.rules.specs.Latitude.{differencesOf, noDifferences}
-use Rattle.rules.proofs.WhatPasses.{range-size, rises-most, InRange, figures-in, Bounded, figures-bounded, differences-are}
-use Rattle.rows.specs.Rows.{zeroFirst, figuresAt, differencesAt}
+use Rattle.rules.specs.Limits.{inRange, rises}
+use Rattle.rules.specs.Latitude.{figuresInRange, differencesOf, noDifferences}
+use Rattle.rules.proofs.Tests.{both}
+use Rattle.rules.proofs.WhatPasses.{Size, range-size, rises-most, rises-sizes, InRange, figures-in, Bounded, figures-bounded, differences-are}
+use Rattle.rows.specs.Rows.{zeroFirst, figuresAt, differencesAt, rowAt, rowInRange}
 use Rattle.rows.proofs.PassingRows.{LatitudeRow, LongitudeRow}
 
 -- ---- "row 0 is 0"
@@ -26,8 +27,23 @@ first-zero x e =
 
 -- ---- latitude: b is the body, of n rows
 module _ (b : List ℕ) (n : ℕ) (rows : (i : ℕ) → i < n → LatitudeRow b n i) where
+  ranges : (i : ℕ) → i < n → (inRange (pos 0) (rowAt b i .minute) (pos 5_400) ≡ true) × (figuresInRange (figuresAt b i) ≡ true)
+  unfolding rowInRange
+  ranges i h = both _ _ (rows i h .range)
+
+  pub minute-in-range : (i : ℕ) → i < n → Size 0 (rowAt b i .minute) 5_400
+  minute-in-range i h = range-size 0 (rowAt b i .minute) 5_400 (ranges i h .0)
+
   pub figures-in-range : (i : ℕ) → i < n → InRange (figuresAt b i)
-  figures-in-range i h = figures-in (figuresAt b i) (rows i h .figures)
+  figures-in-range i h = figures-in (figuresAt b i) (ranges i h .1)
+
+  -- the minute after row i's
+  pub minute-up : (i : ℕ) → i + 1 < n → natAbs (rowAt b (i + 1) .minute) ≡ natAbs (rowAt b i .minute) + 1
+  minute-up i h =
+      let this = minute-in-range i (omega arith) in
+      let next = minute-in-range (i + 1) h in
+      let up : rises (rowAt b i .minute) (rowAt b (i + 1) .minute) (pos 1) (pos 1) ≡ true = rows i (omega arith) .next-minute h in
+      omega (arith, rises-sizes 1 1 (natAbs (rowAt b i .minute)) (natAbs (rowAt b (i + 1) .minute)) (rw (← this .is, ← next .is) up))
 
   pub figures-within : (i : ℕ) → i + 1 < n → Bounded (figuresAt b i) (figuresAt b (i + 1))
   figures-within i h =

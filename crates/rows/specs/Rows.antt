@@ -1,7 +1,7 @@
 -- The faults of a row, kind by kind. b is the body: the part of the sheet that holds its n rows; i is the row, counted from 0. Each fault is a number, 0 for none.
 -- The figures stand in the order of the table of kinds, with its units and ranges; "row 0 is 0" is a range too, and number 6. "No word may be missing; zero is a
 -- figure like any other." In the quotes b is a figure of kind 3.
-use mathlib.Core.Bool.{Bool, true}
+use mathlib.Core.Bool.{Bool, true, _&&_}
 use mathlib.Core.List.{List}
 use Prim.Native.Nat.{ℕ, _+_, _*_}
 use lib.IntN.{ℤ, pos, negℤ}
@@ -9,6 +9,7 @@ use Rattle.words.specs.Words.{wordAt}
 use Rattle.words.specs.Ladder.{need, whereBelow}
 use Rattle.rules.specs.declared.Figures.{Figures}
 use Rattle.rules.specs.declared.Differences.{Differences}
+use Rattle.rows.specs.declared.Row.{Row}
 use Rattle.rules.specs.Limits.{inRange, rises}
 use Rattle.rules.specs.Latitude.{figuresInRange, withinBounds, differencesOf, noDifferences, sameDifferences}
 
@@ -24,28 +25,38 @@ zoneFault b i =
     0)
 
 -- "2 latitude": "minute; y0 (0.01 ft); Δy (0.00001); H (0.000001); ΔH (10⁻⁸); V (0.000001); ΔV (10⁻⁸); a (0.001)"
-abbrev pub minuteAt : List ℕ → ℕ → ℤ
-minuteAt b i = wordAt b (8 * i)
-
 unfoldable pub figuresAt : List ℕ → ℕ → Figures
 figuresAt b i = record { y0 = wordAt b (8 * i + 1); h = wordAt b (8 * i + 3); v = wordAt b (8 * i + 5); a = wordAt b (8 * i + 7) }
 
 unfoldable pub differencesAt : List ℕ → ℕ → Differences
 differencesAt b i = record { y = wordAt b (8 * i + 2); h = wordAt b (8 * i + 4); v = wordAt b (8 * i + 6) }
 
--- "in each row 6, 7, 8, 9, where 7 to 9 look at the next row": 6 "a figure outside its range", "minute 0 to 5,400" and the four figures; 7 "next minute not one
--- more"; 8 "a row difference outside its bounds"; 9 "Δy, ΔH or ΔV not as stated". "In the last row all three are 0."
+abbrev pub rowAt : List ℕ → ℕ → Row
+rowAt b i = record { minute = wordAt b (8 * i); figures = figuresAt b i; differences = differencesAt b i }
+
+-- "minute 0 to 5,400" and the four figures
+unfoldable pub rowInRange : Row → Bool
+rowInRange row = inRange (pos 0) (row .minute) (pos 5_400) && figuresInRange (row .figures)
+
+-- "in each row 6, 7, 8, 9, where 7 to 9 look at the next row": 6 "a figure outside its range"; 7 "next minute not one more"; 8 "a row difference outside its
+-- bounds"; 9 "Δy, ΔH or ΔV not as stated".
+unfoldable pub pairFault : Row → Row → ℕ
+pairFault row next =
+    need (rowInRange row) 6
+    (need (rises (row .minute) (next .minute) (pos 1) (pos 1)) 7
+    (need (withinBounds (row .figures) (next .figures)) 8
+    (need (sameDifferences (row .differences) (differencesOf (row .figures) (next .figures))) 9
+    0)))
+
+-- The last row has no next: 6, and 9 since "In the last row all three are 0."
+unfoldable pub lastFault : Row → ℕ
+lastFault row =
+    need (rowInRange row) 6
+    (need (sameDifferences (row .differences) noDifferences) 9
+    0)
+
 unfoldable pub latitudeFault : List ℕ → ℕ → ℕ → ℕ
-latitudeFault b n i =
-    need (inRange (pos 0) (minuteAt b i) (pos 5_400)) 6
-    (need (figuresInRange (figuresAt b i)) 6
-    (whereBelow (i + 1) n
-    (need (rises (minuteAt b i) (minuteAt b (i + 1)) (pos 1) (pos 1)) 7
-    (need (withinBounds (figuresAt b i) (figuresAt b (i + 1))) 8
-    (need (sameDifferences (differencesAt b i) (differencesOf (figuresAt b i) (figuresAt b (i + 1)))) 9
-    0)))
-    (need (sameDifferences (differencesAt b i) noDifferences) 9
-    0)))
+latitudeFault b n i = whereBelow (i + 1) n (pairFault (rowAt b i) (rowAt b (i + 1))) (lastFault (rowAt b i))
 
 -- "3 longitude": "b (0.001); c (0.001)", "b ±20,000, c ±2,000; row 0 both 0"; "Next b's differ by at most 1,000."
 unfoldable pub longitudeFault : List ℕ → ℕ → ℕ → ℕ

@@ -2,13 +2,21 @@
 use rules::Differences;
 use rules::Figures;
 ghost use mathlib.Core.Path.{_≡_};
+ghost use mathlib.Core.Bool.{true};
 ghost use Prim.Native.Nat.{_+_, _*_, _<_, _≤_};
 ghost use lib.IntN.{pos, negℤ};
 ghost use lib.ListN.{length};
 ghost use Rattle.words.specs.Words.{wordAt};
 ghost use Rattle.rules.specs.Limits.{inRange, rises};
 ghost use Rattle.rules.specs.Latitude.{figuresInRange, withinBounds, differencesOf, noDifferences, sameDifferences};
-ghost use Rattle.rows.specs.Rows.{zeroFirst, minuteAt, figuresAt, differencesAt, zoneFault, latitudeFault, longitudeFault, northingFault, eastingFault, scaleFault};
+ghost use Rattle.rows.specs.Rows.{zeroFirst, figuresAt, differencesAt, rowAt, rowInRange, pairFault, lastFault, zoneFault, longitudeFault, northingFault, eastingFault, scaleFault};
+
+// A latitude row: its eight words.
+pub struct Row {
+    pub minute: i32,
+    pub figures: Figures,
+    pub differences: Differences,
+}
 
 // Whether word at is from least to most.
 fn word_in(b: &[u8], at: usize, least: i32, most: i32) -> bool
@@ -62,78 +70,89 @@ fn differences_at(b: &[u8], i: usize) -> Differences
     ensures { λ r. ⌜ r ≡ differencesAt (now (b .entry)) i ⌝ }
 {
     Differences {
-        y: words::word(b, 8 * i + 2) as i64,
-        h: words::word(b, 8 * i + 4) as i64,
-        v: words::word(b, 8 * i + 6) as i64,
+        y: words::word(b, 8 * i + 2),
+        h: words::word(b, 8 * i + 4),
+        v: words::word(b, 8 * i + 6),
     }
 }
 
-// Whether latitude row i's figures are in their ranges.
-fn row_in_range(b: &[u8], i: usize) -> bool
+// Latitude row i.
+pub fn row_at(b: &[u8], i: usize) -> Row
     requires { ⌜ 32 * i + 32 ≤ length (now b) ⌝ }
-    ensures { λ r. ⌜ r ≡ figuresInRange (figuresAt (now (b .entry)) i) ⌝ }
+    ensures { λ r. ⌜ r ≡ rowAt (now (b .entry)) i ⌝ }
 {
-    rules::figures_in_range(figures_at(b, i))
+    Row {
+        minute: words::word(b, 8 * i),
+        figures: figures_at(b, i),
+        differences: differences_at(b, i),
+    }
 }
 
-// Whether the minute after latitude row i's is one more.
-fn minute_rises(b: &[u8], i: usize) -> bool
-    requires { ⌜ 32 * i + 64 ≤ length (now b) ⌝ }
-    ensures { λ r. ⌜ r ≡ rises (minuteAt (now (b .entry)) i) (minuteAt (now (b .entry)) (i + 1)) (pos 1) (pos 1) ⌝ }
+// Whether a latitude row's minute and figures are in their ranges.
+fn row_in_range(row: Row) -> bool
+    ensures { λ r. ⌜ r ≡ rowInRange row ⌝ }
 {
-    rules::rises(words::word(b, 8 * i), words::word(b, 8 * (i + 1)), 1, 1)
+    rules::in_range(0, row.minute, 5_400) & rules::figures_in_range(row.figures)
 }
 
-// Whether latitude row i is within its bounds with the next row.
-fn row_within_bounds(b: &[u8], i: usize) -> bool
-    requires { ⌜ 32 * i + 64 ≤ length (now b) ⌝ }
-    ensures { λ r. ⌜ r ≡ withinBounds (figuresAt (now (b .entry)) i) (figuresAt (now (b .entry)) (i + 1)) ⌝ }
+// Whether the next minute is one more.
+fn minute_rises(row: Row, next: Row) -> bool
+    ensures { λ r. ⌜ r ≡ rises (row .minute) (next .minute) (pos 1) (pos 1) ⌝ }
 {
-    rules::within_bounds(figures_at(b, i), figures_at(b, i + 1))
+    rules::rises(row.minute, next.minute, 1, 1)
 }
 
-// Whether latitude row i's differences are those from it to the next row.
-fn row_as_stated(b: &[u8], i: usize) -> bool
-    requires { ⌜ 32 * i + 64 ≤ length (now b) ⌝ }
-    ensures { λ r. ⌜ r ≡ sameDifferences (differencesAt (now (b .entry)) i) (differencesOf (figuresAt (now (b .entry)) i) (figuresAt (now (b .entry)) (i + 1))) ⌝ }
+// Whether a latitude row is within its bounds with the next.
+fn row_within_bounds(row: Row, next: Row) -> bool
+    ensures { λ r. ⌜ r ≡ withinBounds (row .figures) (next .figures) ⌝ }
 {
-    let d = rules::differences_of(figures_at(b, i), figures_at(b, i + 1));
-    rules::same_differences(differences_at(b, i), d)
+    rules::within_bounds(row.figures, next.figures)
 }
 
-// Whether latitude row i's differences are those of the last row.
-fn last_as_stated(b: &[u8], i: usize) -> bool
-    requires { ⌜ 32 * i + 32 ≤ length (now b) ⌝ }
-    ensures { λ r. ⌜ r ≡ sameDifferences (differencesAt (now (b .entry)) i) noDifferences ⌝ }
+// Whether a latitude row's differences are those to the next, where the two are within their bounds.
+fn row_as_stated(row: Row, next: Row) -> bool
+    requires { ⌜ withinBounds (row .figures) (next .figures) ≡ true ⌝ }
+    ensures { λ r. ⌜ r ≡ sameDifferences (row .differences) (differencesOf (row .figures) (next .figures)) ⌝ }
 {
-    rules::same_differences(differences_at(b, i), rules::no_differences())
+    let d = rules::differences_of(row.figures, next.figures);
+    rules::same_differences(row.differences, d)
 }
 
-// The number of the fault of a latitude row, one of n.
-pub fn latitude_row(b: &[u8], n: usize, i: usize) -> u32
-    requires { ⌜ (32 * n ≤ length (now b)) × (i < n) ⌝ }
-    ensures { λ r. ⌜ r ≡ latitudeFault (now (b .entry)) n i ⌝ }
+// Whether a latitude row's differences are those of the last row.
+fn last_as_stated(row: Row) -> bool
+    ensures { λ r. ⌜ r ≡ sameDifferences (row .differences) noDifferences ⌝ }
 {
-    if !word_in(b, 8 * i, 0, 5_400) {
+    rules::same_differences(row.differences, rules::no_differences())
+}
+
+// The number of the fault of a latitude row that another follows.
+pub fn latitude_row(row: Row, next: Row) -> u32
+    ensures { λ r. ⌜ r ≡ pairFault row next ⌝ }
+{
+    if !row_in_range(row) {
         return 6;
     }
-    if !row_in_range(b, i) {
+    if !minute_rises(row, next) {
+        return 7;
+    }
+    if !row_within_bounds(row, next) {
+        return 8;
+    }
+    if !row_as_stated(row, next) {
+        return 9;
+    }
+    0
+}
+
+// The number of the fault of the last latitude row.
+pub fn last_latitude_row(row: Row) -> u32
+    ensures { λ r. ⌜ r ≡ lastFault row ⌝ }
+{
+    if !row_in_range(row) {
         return 6;
     }
-    if i + 1 < n {
-        if !minute_rises(b, i) {
-            return 7;
-        }
-        if !row_within_bounds(b, i) {
-            return 8;
-        }
-        if !row_as_stated(b, i) {
-            return 9;
-        }
-    } else {
-        if !last_as_stated(b, i) {
-            return 9; // a difference in the last row
-        }
+    if !last_as_stated(row) {
+        return 9; // a difference in the last row
     }
     0
 }

@@ -2,12 +2,14 @@
 use mathlib.Core.Path.{_≡_, refl, sym, ap, _∙_, subst}
 use mathlib.Core.Bool.{true}
 use Prim.Native.Nat.{ℕ, suc, _+_, _-_, _≤_}
+use native.Mathlib.Nat.{le-trans}
 use native.Mathlib.Decide.{decLe}
 use native.Mathlib.Omega.{arith}
-use lib.Dec.{T}
+use lib.Dec.{T, lit≤}
 use lib.IntN.{ℤ, pos, negsuc, negℤ, natAbs, _-ℤ_}
 use lib.Signed.{nonNeg}
 use borrow.Author.Tests.{leb-true}
+use Rattle.figures.specs.Ranges.{mostChange}
 use Rattle.figures.proofs.Sizes.{within-size, pos-minus, subℕ-le, subℕ-lt}
 use Rattle.rules.specs.declared.Figures.{Figures}
 use Rattle.rules.specs.declared.Differences.{Differences}
@@ -98,3 +100,21 @@ differences-are e d h =
     let v : e .v ≡ d .v = same-true (e .v) (d .v) (p .1) in
     let same : _≡_ {A = Differences} (record { y = e .y; h = e .h; v = e .v }) (record { y = d .y; h = d .h; v = d .v }) = rw (y, h, v) in
     same
+
+-- ---- the changes whose differences are worked are small
+pub record Changes (f next : Figures) : Type 0 where
+  pub y0 : natAbs (next .y0 -ℤ f .y0) ≤ mostChange
+  pub h : natAbs (f .h -ℤ next .h) ≤ mostChange
+  pub v : natAbs (next .v -ℤ f .v) ≤ mostChange
+
+pub changes : (f next : Figures) → withinBounds f next ≡ true → Changes f next
+unfolding withinBounds rises
+changes f next e =
+    let p = both _ _ e in
+    let q = both _ _ (p .0) in
+    let r = both _ _ (q .0) in
+    record {
+      y0 = le-trans (range-size 600_000 (next .y0 -ℤ f .y0) 615_000 (r .0) .high) (lit≤ tt);
+      h = le-trans (range-size 1 (f .h -ℤ next .h) 50_000 (r .1) .high) (lit≤ tt);
+      v = le-trans (range-most 1_000 (next .v -ℤ f .v) (q .1)) (lit≤ tt);
+    }

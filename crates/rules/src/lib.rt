@@ -1,8 +1,9 @@
 // The rules of a sheet's figures, as functions of the figures, which the check and a correction call alike.
 ghost use mathlib.Core.Path.{_≡_};
+ghost use mathlib.Core.Bool.{true};
 ghost use Prim.Native.Nat.{_≤_};
-ghost use lib.IntN.{_-ℤ_};
-ghost use Rattle.figures.specs.Ranges.{mostScale};
+ghost use lib.IntN.{natAbs, _-ℤ_};
+ghost use Rattle.figures.specs.Ranges.{mostScale, mostChange};
 ghost use Rattle.figures.specs.Steps.{perSecond};
 ghost use Rattle.rules.specs.Limits.{inRange, rises, sameAs};
 ghost use Rattle.rules.specs.Latitude.{figuresInRange, withinBounds, differencesOf, noDifferences, sameDifferences};
@@ -15,11 +16,11 @@ pub struct Figures {
     pub a: i32,
 }
 
-// The differences of a latitude row: Δy (0.00001), ΔH (10⁻⁸), ΔV (10⁻⁸). Of figures that are out of range they may pass 32 bits.
+// The differences of a latitude row: Δy (0.00001), ΔH (10⁻⁸), ΔV (10⁻⁸).
 pub struct Differences {
-    pub y: i64,
-    pub h: i64,
-    pub v: i64,
+    pub y: i32,
+    pub h: i32,
+    pub v: i32,
 }
 
 // Whether x is from least to most.
@@ -38,7 +39,7 @@ pub fn rises(x: i32, next: i32, least: i32, most: i32) -> bool
 }
 
 // Whether x is y.
-fn same_as(x: i64, y: i64) -> bool
+fn same_as(x: i32, y: i32) -> bool
     ensures { λ r. ⌜ r ≡ sameAs x y ⌝ }
 {
     x == y
@@ -65,15 +66,16 @@ pub fn within_bounds(f: Figures, next: Figures) -> bool
 }
 
 // The difference from x to next, over 60 seconds, scaled to its column's unit.
-fn over_minute(scale: u64, x: i32, next: i32) -> i64
-    requires { ⌜ scale ≤ mostScale ⌝ }
+fn over_minute(scale: u64, x: i32, next: i32) -> i32
+    requires { ⌜ (scale ≤ mostScale) × (natAbs (next -ℤ x) ≤ mostChange) ⌝ }
     ensures { λ r. ⌜ r ≡ perSecond scale (next -ℤ x) ⌝ }
 {
-    figures::per_second(scale, (next as i64) - (x as i64))
+    figures::per_second(scale, (next as i64) - (x as i64)) as i32
 }
 
-// The differences of a row from its figures and the next row's.
+// The differences of a row from its figures and the next row's, which are within their bounds.
 pub fn differences_of(f: Figures, next: Figures) -> Differences
+    requires { ⌜ withinBounds f next ≡ true ⌝ }
     ensures { λ r. ⌜ r ≡ differencesOf f next ⌝ }
 {
     Differences {

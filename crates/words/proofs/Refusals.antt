@@ -25,6 +25,10 @@ module _ {A : Type 0} (t f : Bool) where
   unfolding need
   go-past x y rest h e r = cc
 
+-- past `if !f { .. }` the test holds
+pub kept : (t f : Bool) → f ≡ t → not f ≡ false → t ≡ true
+kept t f h e = cc (not-false f e)
+
 -- `if a < b { .. } else { .. }`
 module _ {A : Type 0} (a b : ℕ) where
   pub below : (x y z : A) → a < b → z ≡ x → z ≡ whereBelow a b x y

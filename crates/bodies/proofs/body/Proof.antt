@@ -1,4 +1,5 @@
 -- `bodies::body` meets its contract. Assumes nothing.
+use borrow.Author.Needs.{needs}
 use mathlib.Core.Path.{_≡_}
 use native.Mathlib.Omega.{arith}
 use Rattle.bodies.proofs.Parts.{rows-zone, rows-latitude, rows-longitude, rows-northing, rows-easting, rows-scale}
@@ -32,7 +33,7 @@ zone-requires : tie.Need-zone-requires
 zone-requires c κs = search rows-zone
 
 latitude-requires : tie.Need-latitude-requires
-latitude-requires c κs = search rows-latitude
+latitude-requires c κs = search (rows-latitude, needs)
 
 longitude-requires : tie.Need-longitude-requires
 longitude-requires c κs = search rows-longitude

@@ -1,5 +1,5 @@
 -- `bodies::body_of` meets its contract. Assumes nothing.
-use Rattle.bodies.proofs.Parts.{long-enough, part-within, words-fit, start-fits, bytes-fit, end-fits, part-rows, part-fault}
+use Rattle.bodies.proofs.Parts.{long-enough, part-within, words-fit, start-fits, bytes-fit, end-fits, part-some, part-rows, part-fault}
 use borrow.Author.Needs.{needs}
 use Rattle.bodies.proofs.body_of.Statement.{statement}
 use Rattle.bodies.proofs.body_of.Tie as tie
@@ -35,7 +35,7 @@ part-body-end : tie.Need-part-body-end
 part-body-end c = search part-within
 
 body-requires : tie.Need-body-requires
-body-requires c κs = search (part-rows, needs)
+body-requires c κs = search (part-rows, part-some, needs)
 
 pub body-of-spec : {M : Type 1} → statement M
 body-of-spec =

@@ -6,9 +6,6 @@ use Rattle.rows.proofs.last_as_stated.Tie as tie
 returns : tie.Need-returns
 returns c = cc
 
-differences-at-requires : tie.Need-differences-at-requires
-differences-at-requires c κs = search needs
-
 no-differences-requires : tie.Need-no-differences-requires
 no-differences-requires c κs = search needs
 
@@ -17,5 +14,4 @@ same-differences-requires c κs = search needs
 
 pub last-as-stated-spec : {M : Type 1} → statement M
 last-as-stated-spec =
-    tie.close
-    (tie.spec differences-at-requires no-differences-requires same-differences-requires returns)
+    tie.close (tie.spec no-differences-requires same-differences-requires returns)

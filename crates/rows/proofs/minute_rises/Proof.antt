@@ -8,29 +8,13 @@ use Rattle.rows.proofs.minute_rises.Tie as tie
 
 returns : tie.Need-returns
 returns c =
-    let this : toZ w32 (ofZ w32 (c .before .before .word .result)) ≡ c .before .before .word .result = search needs in
-    let next : toZ w32 (ofZ w32 (c .before .word2 .result)) ≡ c .before .word2 .result = search needs in
-    c .rises .ensures ∙ rw (this, next, c .before .before .word .ensures, c .before .word2 .ensures)
-
-mul-word : tie.Need-mul-word
-mul-word c = search needs
-
-word-requires : tie.Need-word-requires
-word-requires c κs = search needs
-
-add-word : tie.Need-add-word
-add-word c = search needs
-
-mul-word-2 : tie.Need-mul-word-2
-mul-word-2 c = search needs
-
-word-requires-2 : tie.Need-word-requires-2
-word-requires-2 c κs = search needs
+    let a = c .before .before .before .args in
+    let this : toZ w32 (ofZ w32 (a .row .minute)) ≡ a .row .minute = search needs in
+    let next : toZ w32 (ofZ w32 (a .next .minute)) ≡ a .next .minute = search needs in
+    c .rises .ensures ∙ rw (this, next)
 
 rises-requires : tie.Need-rises-requires
 rises-requires c κs = search needs
 
 pub minute-rises-spec : {M : Type 1} → statement M
-minute-rises-spec =
-    tie.close
-    (tie.spec mul-word word-requires add-word mul-word-2 word-requires-2 rises-requires returns)
+minute-rises-spec = tie.close (tie.spec rises-requires returns)
