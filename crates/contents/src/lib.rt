@@ -285,12 +285,11 @@ pub fn contents(s: &[u8]) -> Verdict
     }
     let f = entries(s);
     let number = f.number;
-    let place = f.place;
     if number != 0 {
         return Verdict {
             number,
             kind: 0,
-            row: place + 1,
+            row: f.place + 1,
         };
     }
     if !ends_sheet(s) {

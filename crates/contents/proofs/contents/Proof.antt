@@ -37,14 +37,14 @@ counts-entries-requires c κs = search long
 entries-requires : tie.Need-entries-requires
 entries-requires c κs = search long
 
-add-t7 : tie.Need-add-t7
-add-t7 c = let small = entry-place _ (c .before .entries .result) (c .before .entries .ensures) in omega (arith, small)
+add-t6 : tie.Need-add-t6
+add-t6 c = let small = entry-place _ (c .before .before .entries .result) (c .before .before .entries .ensures) in omega (arith, small)
 
 ends-sheet-requires : tie.Need-ends-sheet-requires
 ends-sheet-requires c κs = (search long, cc)
 
-add-t8 : tie.Need-add-t8
-add-t8 c = search needs
+add-t7 : tie.Need-add-t7
+add-t7 c = search needs
 
 pub contents-spec : {M : Type 1} → statement M
 contents-spec =
@@ -55,9 +55,9 @@ contents-spec =
     counts-entries-requires
     returns-2
     entries-requires
-    add-t7
+    add-t6
     returns-3
     ends-sheet-requires
-    add-t8
+    add-t7
     returns-4
     returns-5)
