@@ -1,4 +1,4 @@
--- A row's fault is that of its kind, so a body's first fault is its kind's checker's. Assumes nothing.
+-- A row's fault is that of its kind, so a latitude body's first fault is its checker's. Assumes nothing.
 use mathlib.Core.Path.{_≡_}
 use mathlib.Core.List.{List}
 use Prim.Native.Nat.{ℕ}
@@ -8,27 +8,28 @@ use Rattle.words.specs.Faults.{firstFault}
 use Rattle.rows.specs.Rows.{zoneFault, latitudeFault, longitudeFault, northingFault, eastingFault, scaleFault}
 use Rattle.bodies.specs.Check.{rowFault}
 
-module _ (kind : ℕ) (b : List ℕ) (n : ℕ) (r : Fault) where
-  pub of-zone : kind ≡ 1 → r ≡ firstFault (zoneFault b) n 0 → r ≡ firstFault (rowFault kind b n) n 0
-  unfolding rowFault whereIs
-  of-zone e q = rw e q
+module _ (kind : ℕ) (b : List ℕ) (n : ℕ) where
+  module _ (i x : ℕ) where
+    pub of-zone : kind ≡ 1 → x ≡ zoneFault b i → x ≡ rowFault kind b n i
+    unfolding rowFault whereIs
+    of-zone e q = rw e q
 
-  pub of-latitude : kind ≡ 2 → r ≡ firstFault (latitudeFault b n) n 0 → r ≡ firstFault (rowFault kind b n) n 0
-  unfolding rowFault whereIs
-  of-latitude e q = rw e q
+    pub of-longitude : kind ≡ 3 → x ≡ longitudeFault b n i → x ≡ rowFault kind b n i
+    unfolding rowFault whereIs
+    of-longitude e q = rw e q
 
-  pub of-longitude : kind ≡ 3 → r ≡ firstFault (longitudeFault b n) n 0 → r ≡ firstFault (rowFault kind b n) n 0
-  unfolding rowFault whereIs
-  of-longitude e q = rw e q
+    pub of-northing : kind ≡ 4 → x ≡ northingFault b i → x ≡ rowFault kind b n i
+    unfolding rowFault whereIs
+    of-northing e q = rw e q
 
-  pub of-northing : kind ≡ 4 → r ≡ firstFault (northingFault b) n 0 → r ≡ firstFault (rowFault kind b n) n 0
-  unfolding rowFault whereIs
-  of-northing e q = rw e q
+    pub of-easting : kind ≡ 5 → x ≡ eastingFault b i → x ≡ rowFault kind b n i
+    unfolding rowFault whereIs
+    of-easting e q = rw e q
 
-  pub of-easting : kind ≡ 5 → r ≡ firstFault (eastingFault b) n 0 → r ≡ firstFault (rowFault kind b n) n 0
-  unfolding rowFault whereIs
-  of-easting e q = rw e q
+    pub of-scale : kind ≡ 6 → x ≡ scaleFault b i → x ≡ rowFault kind b n i
+    unfolding rowFault whereIs
+    of-scale e q = rw e q
 
-  pub of-scale : kind ≡ 6 → r ≡ firstFault (scaleFault b) n 0 → r ≡ firstFault (rowFault kind b n) n 0
+  pub of-latitude : (r : Fault) → kind ≡ 2 → r ≡ firstFault (latitudeFault b n) n 0 → r ≡ firstFault (rowFault kind b n) n 0
   unfolding rowFault whereIs
-  of-scale e q = rw e q
+  of-latitude r e q = rw e q

@@ -21,23 +21,24 @@ module _ (kind n size : ℕ) (h : 4 * (n * widthOf kind) ≤ size) where
   of-kind : (k : ℕ) → kind ≡ k → 4 * (n * widthOf k) ≤ size
   of-kind k e = rw e at h
 
-  pub rows-zone : kind ≡ 1 → 8 * n ≤ size
-  rows-zone e = omega (arith, of-kind 1 e)
-
   pub rows-latitude : kind ≡ 2 → 32 * n ≤ size
   rows-latitude e = omega (arith, of-kind 2 e)
 
-  pub rows-longitude : kind ≡ 3 → 8 * n ≤ size
-  rows-longitude e = omega (arith, of-kind 3 e)
+  module _ (i : ℕ) (l : i < n) where
+    pub row-zone : kind ≡ 1 → 8 * i + 8 ≤ size
+    row-zone e = omega (arith, of-kind 1 e)
 
-  pub rows-northing : kind ≡ 4 → 8 * n ≤ size
-  rows-northing e = omega (arith, of-kind 4 e)
+    pub rows-longitude : kind ≡ 3 → 8 * n ≤ size
+    rows-longitude e = omega (arith, of-kind 3 e)
 
-  pub rows-easting : kind ≡ 5 → 4 * n ≤ size
-  rows-easting e = omega (arith, of-kind 5 e)
+    pub row-northing : kind ≡ 4 → 8 * i + 8 ≤ size
+    row-northing e = omega (arith, of-kind 4 e)
 
-  pub rows-scale : kind ≡ 6 → 4 * n ≤ size
-  rows-scale e = omega (arith, of-kind 6 e)
+    pub row-easting : kind ≡ 5 → 4 * i + 4 ≤ size
+    row-easting e = omega (arith, of-kind 5 e)
+
+    pub row-scale : kind ≡ 6 → 4 * i + 4 ≤ size
+    row-scale e = omega (arith, of-kind 6 e)
 
 -- ---- the part
 module _ (s : List ℕ) (kind : ℕ) (z : contentsOf s .number ≡ 0) (l : 1 ≤ kind) (h : kind ≤ lastKind) where

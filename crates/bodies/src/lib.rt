@@ -5,19 +5,39 @@ ghost use mathlib.Core.Path.{_≡_};
 ghost use Prim.Native.Nat.{_*_, _<_, _≤_};
 ghost use lib.ListN.{length};
 ghost use Rattle.words.specs.Faults.{firstFault};
-ghost use Rattle.contents.specs.Layout.{lastKind, widthOf};
+ghost use Rattle.contents.specs.Layout.{latitude, lastKind, widthOf};
 ghost use Rattle.contents.specs.Contents.{contentsOf};
-ghost use Rattle.rows.specs.Rows.{zoneFault, latitudeFault, longitudeFault, northingFault, eastingFault, scaleFault};
+ghost use Rattle.rows.specs.Rows.{latitudeFault};
 ghost use Rattle.bodies.specs.Check.{rowFault, faultOf, checkOf};
 
-// The first fault of a zone body of n rows.
-fn zone(b: &[u8], n: usize) -> Fault
-    requires { ⌜ 8 * n ≤ length (now b) ⌝ }
-    ensures { λ r. ⌜ r ≡ firstFault (zoneFault (now (b .entry))) n 0 ⌝ }
+// The number of the fault of row i of a body of the kind, but latitude, with n rows: the part goes to its kind's checker.
+fn row_fault(kind: usize, b: &[u8], n: usize, i: usize) -> u32
+    requires { ⌜ (1 ≤ kind) × (kind ≤ lastKind) × (kind ≡ latitude → ⊥) × (4 * (n * widthOf kind) ≤ length (now b)) × (i < n) ⌝ }
+    ensures { λ r. ⌜ r ≡ rowFault kind (now (b .entry)) n i ⌝ }
+{
+    if kind == contents::ZONE {
+        return rows::zone_row(b, i);
+    }
+    if kind == contents::LONGITUDE {
+        return rows::longitude_row(b, n, i);
+    }
+    if kind == contents::NORTHING {
+        return rows::northing_row(b, i);
+    }
+    if kind == contents::EASTING {
+        return rows::easting_row(b, i);
+    }
+    rows::scale_row(b, i)
+}
+
+// The first fault of a body of the kind, but latitude, with n rows.
+fn table(kind: usize, b: &[u8], n: usize) -> Fault
+    requires { ⌜ (1 ≤ kind) × (kind ≤ lastKind) × (kind ≡ latitude → ⊥) × (4 * (n * widthOf kind) ≤ length (now b)) ⌝ }
+    ensures { λ r. ⌜ r ≡ firstFault (rowFault kind (now (b .entry)) n) n 0 ⌝ }
 {
     let mut i = 0;
     while i < n {
-        let number = rows::zone_row(b, i);
+        let number = row_fault(kind, b, n, i);
         if number != 0 {
             return Fault { number, place: i };
         }
@@ -55,103 +75,15 @@ fn latitude(b: &[u8], n: usize) -> Fault
     }
 }
 
-// The first fault of a longitude body of n rows.
-fn longitude(b: &[u8], n: usize) -> Fault
-    requires { ⌜ 8 * n ≤ length (now b) ⌝ }
-    ensures { λ r. ⌜ r ≡ firstFault (longitudeFault (now (b .entry)) n) n 0 ⌝ }
-{
-    let mut i = 0;
-    while i < n {
-        let number = rows::longitude_row(b, n, i);
-        if number != 0 {
-            return Fault { number, place: i };
-        }
-        i += 1;
-    }
-    Fault {
-        number: 0,
-        place: 0,
-    }
-}
-
-// The first fault of a northing body of n rows.
-fn northing(b: &[u8], n: usize) -> Fault
-    requires { ⌜ 8 * n ≤ length (now b) ⌝ }
-    ensures { λ r. ⌜ r ≡ firstFault (northingFault (now (b .entry))) n 0 ⌝ }
-{
-    let mut i = 0;
-    while i < n {
-        let number = rows::northing_row(b, i);
-        if number != 0 {
-            return Fault { number, place: i };
-        }
-        i += 1;
-    }
-    Fault {
-        number: 0,
-        place: 0,
-    }
-}
-
-// The first fault of an easting body of n rows.
-fn easting(b: &[u8], n: usize) -> Fault
-    requires { ⌜ 4 * n ≤ length (now b) ⌝ }
-    ensures { λ r. ⌜ r ≡ firstFault (eastingFault (now (b .entry))) n 0 ⌝ }
-{
-    let mut i = 0;
-    while i < n {
-        let number = rows::easting_row(b, i);
-        if number != 0 {
-            return Fault { number, place: i };
-        }
-        i += 1;
-    }
-    Fault {
-        number: 0,
-        place: 0,
-    }
-}
-
-// The first fault of a scale body of n rows.
-fn scale(b: &[u8], n: usize) -> Fault
-    requires { ⌜ 4 * n ≤ length (now b) ⌝ }
-    ensures { λ r. ⌜ r ≡ firstFault (scaleFault (now (b .entry))) n 0 ⌝ }
-{
-    let mut i = 0;
-    while i < n {
-        let number = rows::scale_row(b, i);
-        if number != 0 {
-            return Fault { number, place: i };
-        }
-        i += 1;
-    }
-    Fault {
-        number: 0,
-        place: 0,
-    }
-}
-
-// The first fault of a body of the kind, with n rows: its kind's checker judges it.
+// The first fault of a body of the kind, with n rows.
 fn body(kind: usize, b: &[u8], n: usize) -> Fault
     requires { ⌜ (1 ≤ kind) × (kind ≤ lastKind) × (4 * (n * widthOf kind) ≤ length (now b)) × (0 < n) ⌝ }
     ensures { λ r. ⌜ r ≡ firstFault (rowFault kind (now (b .entry)) n) n 0 ⌝ }
 {
-    if kind == contents::ZONE {
-        return zone(b, n);
-    }
     if kind == contents::LATITUDE {
         return latitude(b, n);
     }
-    if kind == contents::LONGITUDE {
-        return longitude(b, n);
-    }
-    if kind == contents::NORTHING {
-        return northing(b, n);
-    }
-    if kind == contents::EASTING {
-        return easting(b, n);
-    }
-    scale(b, n)
+    table(kind, b, n)
 }
 
 // The first fault of the sheet's body of the kind, which is lent to its checker as the part of the sheet that holds it.

@@ -1,4 +1,4 @@
--- `bodies::longitude` meets its contract. Assumes nothing.
+-- `bodies::table` meets its contract. Assumes nothing.
 use native.Mathlib.Omega.{arith}
 use borrow.Author.Needs.{needs}
 use mathlib.Core.Path.{_≡_}
@@ -6,15 +6,15 @@ use Prim.Native.Nat.{_-_, _≤_}
 use native.Mathlib.Nat.{sub-zero}
 use Rattle.words.specs.Faults.{firstFault}
 use Rattle.words.proofs.FirstFault.{on, here, end}
-use Rattle.rows.specs.Rows.{longitudeFault}
-use Rattle.bodies.proofs.longitude.Statement.{statement}
-use Rattle.bodies.proofs.longitude.Tie as tie
+use Rattle.bodies.specs.Check.{rowFault}
+use Rattle.bodies.proofs.table.Statement.{statement}
+use Rattle.bodies.proofs.table.Tie as tie
 
 abbrev Inv-loop : tie.InvT-loop
-Inv-loop b n i₀ i = (i ≤ n) × (firstFault (longitudeFault b n) n 0 ≡ firstFault (longitudeFault b n) (n - i) i)
+Inv-loop kind b n i₀ i = (i ≤ n) × (firstFault (rowFault kind b n) n 0 ≡ firstFault (rowFault kind b n) (n - i) i)
 
 abbrev μ-loop : tie.MeasureT-loop
-μ-loop b n i₀ i = n - i
+μ-loop kind b n i₀ i = n - i
 
 returns : tie.Need-returns Inv-loop μ-loop
 returns c = search here
@@ -25,8 +25,8 @@ returns-2 c = search end
 loop-holds : tie.Need-loop-holds Inv-loop μ-loop
 loop-holds c = (omega arith, rw sub-zero)
 
-longitude-row-requires : tie.Need-longitude-row-requires Inv-loop μ-loop
-longitude-row-requires c κs = search needs
+row-fault-requires : tie.Need-row-fault-requires Inv-loop μ-loop
+row-fault-requires c κs = search needs
 
 add-i : tie.Need-add-i Inv-loop μ-loop
 add-i c = search needs
@@ -37,14 +37,14 @@ loop-less c = search needs
 loop-again : tie.Need-loop-again Inv-loop μ-loop
 loop-again c = (omega arith, search on)
 
-pub longitude-spec : {M : Type 1} → statement M
-longitude-spec =
+pub table-spec : {M : Type 1} → statement M
+table-spec =
     tie.close
     (tie.spec
     Inv-loop
     μ-loop
     loop-holds
-    longitude-row-requires
+    row-fault-requires
     returns
     add-i
     loop-less
