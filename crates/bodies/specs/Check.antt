@@ -10,7 +10,7 @@ use Rattle.contents.specs.Entries.{rowsOf, bodyOf}
 use Rattle.contents.specs.Contents.{verdict, numberOf, contentsOf}
 use Rattle.rows.specs.Rows.{zoneFault, latitudeFault, longitudeFault, northingFault, eastingFault, scaleFault}
 
--- The number of the fault of row i of a body b of the kind, 1 to 6, which has n rows.
+-- The number of the fault, 0 for none, of row i in the body b of n rows. The kind is 1 to 6, so what is left at the end is scale.
 unfoldable pub rowFault : ℕ → List ℕ → ℕ → ℕ → ℕ
 rowFault kind b n i =
     whereIs kind zone (zoneFault b i)
@@ -33,6 +33,6 @@ unfoldable pub bodiesOf : List ℕ → ℕ → ℕ → Verdict
 bodiesOf s zero k = verdict 0 0 0
 bodiesOf s (suc n) k = orElse numberOf (inKind k (faultOf s k)) (bodiesOf s n (suc k))
 
--- "Order: 1; word 0; each entry by 2, 3, 4, start; the end; then bodies"
+-- "Order: 1; word 0; each entry by 2, 3, 4, start; the end; then bodies". 0 is "accepted".
 unfoldable pub checkOf : List ℕ → Verdict
 checkOf s = orElse numberOf (contentsOf s) (bodiesOf s lastKind 1)

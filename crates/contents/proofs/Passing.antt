@@ -12,9 +12,10 @@ use Rattle.words.specs.Words.{unsignedAt}
 use Rattle.words.specs.Ladder.{need, orElse}
 use Rattle.words.specs.Faults.{firstFault}
 use Rattle.words.proofs.FirstFault.{all-pass}
+use Rattle.words.proofs.PartWords.{length-partOf}
 use Rattle.words.proofs.Refusals.{rung, past, each-passes}
 use Rattle.contents.specs.Layout.{entryCount, lastKind, firstBody, leastBytes, mostBytes, widthOf, leastRows, mostRows}
-use Rattle.contents.specs.Entries.{kindAt, startAt, rowsAt, spanAt, named, dueAt, entryOf, startOf, rowsOf}
+use Rattle.contents.specs.Entries.{kindAt, startAt, rowsAt, spanAt, named, dueAt, entryOf, startOf, rowsOf, bodyOf}
 use Rattle.contents.specs.Contents.{sized, ends, verdict, numberOf, inEntries, entryFault, contentsOf}
 use Rattle.contents.proofs.Limits.{within-true, sized-true}
 use Rattle.contents.proofs.EachKind.{each-kind}
@@ -149,3 +150,7 @@ module _ (s : List ℕ) (z : contentsOf s .number ≡ 0) (k : ℕ) (l : 1 ≤ k)
           let due : startAt s e + rowsAt s e * widthOf k ≡ dueAt s (suc e) = unfold dueAt in cc (p .entries e lt .start) in
           let six : 5 - e + suc e ≡ entryCount = omega arith in
           omega (arith, p .end, rw six at (due-rises s (suc e) (5 - e)))
+
+  -- so its part has all its rows
+  pub body-length : length (bodyOf s k) ≡ 4 * (rowsOf s k * widthOf k)
+  body-length = length-partOf s (startOf s k) (rowsOf s k * widthOf k) body-within

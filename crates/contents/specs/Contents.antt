@@ -24,7 +24,7 @@ unfoldable pub within : ℕ → ℕ → ℕ → Bool
 within least n most = leb least n && leb n most
 
 -- "each entry by 2, 3, 4, start": 2 "kind not 1 to 6"; 3 "kind named by an earlier entry"; 4 "rows outside the kind's limits"; 5 "body start wrong".
--- The number of entry e's fault, 0 for none, where the entries before it have none.
+-- The number of entry e's fault, 0 for none. It is asked only where the entries before it have none: dueAt counts on their rows.
 unfoldable pub entryFault : List ℕ → ℕ → ℕ
 entryFault s e =
     need (within 1 (kindAt s e) lastKind) 2
@@ -33,11 +33,11 @@ entryFault s e =
     (need (eqb (startAt s e) (dueAt s e)) 5
     0)))
 
--- It passes unless 1: "sheet under 76 bytes, over 65,532, or not a multiple of 4"
+-- False exactly where 1 is due: "sheet under 76 bytes, over 65,532, or not a multiple of 4"
 unfoldable pub sized : List ℕ → Bool
 sized s = within leastBytes (length s) mostBytes && eqb (length s % 4) 0
 
--- It passes unless 5: "the bodies' end is not the sheet's end". So "the final body ends the sheet".
+-- False exactly where 5 is due: "the bodies' end is not the sheet's end". So "the final body ends the sheet".
 abbrev pub ends : List ℕ → Bool
 ends s = eqb (4 * dueAt s entryCount) (length s)
 

@@ -1,6 +1,6 @@
 -- The entries of the contents, and where each kind's body lies. Entries count from 0 here.
 -- Word 0, kind, start and rows are read without a sign. A word below zero then reads 2³¹ or more: that is not 6, no kind, over every limit of rows and, where the
--- entries before have no fault, no word at which a body may have to start, since those go to 10,153.
+-- entries before have no fault, no word at which a body may have to start, since no body ends past word 10,153.
 use mathlib.Core.Bool.{Bool, false, cond, _||_}
 use mathlib.Core.List.{List}
 use Prim.Native.Nat.{ℕ, zero, suc, _+_, _*_}
@@ -35,7 +35,7 @@ unfoldable pub dueAt : List ℕ → ℕ → ℕ
 dueAt s zero = firstBody
 dueAt s (suc e) = dueAt s e + spanAt s e
 
--- Which of the first n entries names the kind: the last that does, and 0 where none does.
+-- Which of the first n entries names the kind: the last that does, and 0 where none does. In contents without a fault exactly one does.
 unfoldable pub entryOf : List ℕ → ℕ → ℕ → ℕ
 entryOf s kind zero = 0
 entryOf s kind (suc n) = cond (eqb (kindAt s n) kind) n (entryOf s kind n)

@@ -1,4 +1,5 @@
--- How a sheet is laid out: the one place where its counts and limits stand.
+-- How a sheet is laid out: "A table of contents comes first, then the bodies." The one place for the counts of the contents, and for each kind's words in a row and limits of
+-- rows.
 use mathlib.Core.List.{[], _∷_}
 use Prim.Native.Nat.{ℕ}
 use lib.ListN.{getD}
@@ -11,11 +12,12 @@ entryCount = 6
 abbrev pub entryWords : ℕ
 entryWords = 3
 
--- "Kinds 1 to 6"
+-- "Kinds 1 to 6 appear once each in any order": each entry names one of them, and none a second time, so six entries name them all.
 abbrev pub lastKind : ℕ
 lastKind = 6
 
--- "The first body starts at word 19": after word 0 and the entries.
+-- "The first body starts at word 19": after word 0 and the entries. "Where a later form's contents differ in length, its first body follows them and number 1's least
+-- length is theirs."
 abbrev pub firstBody : ℕ
 firstBody = 19
 

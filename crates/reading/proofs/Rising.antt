@@ -8,7 +8,7 @@ use native.Mathlib.Numerals.{add-one}
 use native.Mathlib.Omega.{arith}
 use lib.IntN.{ℤ, pos, _+ℤ_, +ℤ-idr, +ℤ-assoc}
 use lib.Signed.{leZ, ltZ}
-use Rattle.reading.specs.Rows.{Rises, Rising}
+use Rattle.reading.specs.Rows.{RisesBy, Rising}
 use Rattle.reading.proofs.Order.{leZ-refl, leZ-trans, ltZ-leZ, leZ-shift, heights-le, heights-lt, below-height}
 
 -- higher rises pass fewer rows
@@ -23,14 +23,14 @@ one-more a i k = ap (λ (m : ℕ). a +ℤ pos m) (suc-mul i k) ∙ sym (+ℤ-ass
 none-yet : (a : ℤ) (k : ℕ) → a +ℤ pos (0 * k) ≡ a
 none-yet a k = ap (λ (m : ℕ). a +ℤ pos m) (zero-mul k) ∙ +ℤ-idr a
 
-module _ (f : ℕ → ℤ) (n least most : ℕ) (rises : Rises f n least most) where
+module _ (f : ℕ → ℤ) (n least most : ℕ) (rises : RisesBy f n least most) where
   pub rises-rising : 0 < least → Rising f n
-  unfolding Rises Rising
+  unfolding RisesBy Rising
   rises-rising h i l = ltZ-leZ (f i) (f i +ℤ pos least) (f (i + 1)) (below-height (f i) h) (rises i l .0)
 
   -- row i stands at least i·least above row 0, and at most i·most
   pub rises-least : (i : ℕ) → i < n → leZ (f 0 +ℤ pos (i * least)) (f i) ≡ true
-  unfolding Rises
+  unfolding RisesBy
   rises-least zero l = rw (none-yet (f 0) least) (leZ-refl (f 0))
   rises-least (suc i) l =
       rw (one-more (f 0) i least, ← add-one i)
@@ -39,7 +39,7 @@ module _ (f : ℕ → ℤ) (n least most : ℕ) (rises : Rises f n least most) w
       (rises i (omega arith) .0))
 
   pub rises-most : (i : ℕ) → i < n → leZ (f i) (f 0 +ℤ pos (i * most)) ≡ true
-  unfolding Rises
+  unfolding RisesBy
   rises-most zero l = rw (none-yet (f 0) most) (leZ-refl (f 0))
   rises-most (suc i) l =
       rw (one-more (f 0) i most, ← add-one i)

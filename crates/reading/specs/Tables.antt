@@ -5,15 +5,16 @@ use lib.IntN.{ℤ}
 use Rattle.figures.specs.Between.{between}
 use Rattle.words.specs.Words.{wordAt}
 
--- The figure in row i of a column, for a body of so many words in a row. Rows and columns count from 0.
+-- The figure in row i of a column, for a body of so many words in a row. `number` is the column's; rows and columns count from 0.
 abbrev pub column : List ℕ → ℕ → ℕ → ℕ → ℤ
-column body width place i = wordAt body (width * i + place)
+column body width number i = wordAt body (width * i + number)
 
--- "Between rows u and w of step S, at an offset t from 0 to below S, the value is u + (w − u)t/S": u is row i's figure, and w the next row's.
+-- "Between rows u and w of step S, at an offset t from 0 to below S, the value is u + (w − u)t/S, brought to the table's unit by nearest, once": u is
+-- row i's figure, and w the next row's.
 unfoldable pub pastRow : (ℕ → ℤ) → ℕ → ℕ → ℕ → ℤ
 pastRow f i t step = between (f i) (f (i + 1)) t step
 
--- The value at an offset from row 0: the whole steps in it give the row, and the rest is t. "At the last row only t = 0 is used":
+-- The value at an offset from row 0, for a step above 0: the whole steps in it give the row, and the rest is t. "At the last row only t = 0 is used":
 -- the row after it, which is not there, then counts 0 times. An offset past the last row is for its user to refuse first.
 unfoldable pub valueAt : (ℕ → ℤ) → ℕ → ℕ → ℤ
 valueAt f step offset = pastRow f (offset / step) (offset % step) step

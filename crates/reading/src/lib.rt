@@ -8,7 +8,7 @@ ghost use lib.Signed.{leZ, ltZ};
 ghost use Rattle.figures.specs.Ranges.{mostStep};
 ghost use Rattle.words.specs.Words.{wordAt};
 ghost use Rattle.reading.specs.Tables.{column, pastRow, valueAt};
-ghost use Rattle.reading.specs.Rows.{lastNotAbove, Rises, Rising};
+ghost use Rattle.reading.specs.Rows.{lastNotAbove, RisesBy, Rising};
 
 // The value of column c at t past row i, for a body of w words in a row. At t = 0 the next row is not looked at.
 pub fn past_row(b: &[u8], w: usize, c: usize, i: usize, t: u64, step: u64) -> i64
@@ -84,7 +84,7 @@ fn cut(k: u64, last: usize) -> usize
 // The same row where each row is higher than the one before it by least to most: a number d above row 0 can stand no lower than row d / most, and no
 // higher than row d / least, and the search goes through these rows alone.
 pub fn row_of(b: &[u8], w: usize, c: usize, n: usize, least: u64, most: u64, z: i64) -> usize
-    requires { ⌜ (0 < n) × (4 * (w * n) ≤ length (now b)) × (c < w) × (0 < least) × (least ≤ most) × Rises (column (now b) w c) n least most × (leZ (column (now b) w c 0) z ≡ true) × (natAbs z < 2 ^ 62) ⌝ }
+    requires { ⌜ (0 < n) × (4 * (w * n) ≤ length (now b)) × (c < w) × (0 < least) × (least ≤ most) × RisesBy (column (now b) w c) n least most × (leZ (column (now b) w c 0) z ≡ true) × (natAbs z < 2 ^ 62) ⌝ }
     ensures { λ r. ⌜ (r ≡ lastNotAbove (column (now (b .entry)) w c) n z) × (r < n) ⌝ }
 {
     let d = height(b, c, z);

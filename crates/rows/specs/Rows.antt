@@ -1,6 +1,9 @@
 -- The faults of a row, kind by kind. b is the body: the part of the sheet that holds its n rows; i is the row, counted from 0. Each fault is a number, 0 for none.
--- The figures stand in the order of the table of kinds, with its units and ranges; "row 0 is 0" is a range too, and number 6. "No word may be missing; zero is a
--- figure like any other." In the quotes b is a figure of kind 3.
+-- "in each row 6, 7, 8, 9, where 7 to 9 look at the next row": 6 "a figure outside its range"; 7 "next minute not one more"; 8 "a row difference outside its
+-- bounds"; 9 "Δy, ΔH or ΔV not as stated". "Row 0 is 0" is a range too, so 6.
+-- "No word may be missing": the contents, by 4 and 5, see to it that the body holds every word of its rows; "zero is a figure like any other": a 0 is judged by
+-- its range alone. The figures stand in the order of the table of kinds, with its units and ranges; in the quotes b is a figure of kind 3. The steps of the
+-- tables are for those who read between their rows.
 use mathlib.Core.Bool.{Bool, true, _&&_}
 use mathlib.Core.List.{List}
 use Prim.Native.Nat.{ℕ, _+_, _*_}
@@ -24,7 +27,8 @@ zoneFault b i =
     (need (inRange (pos 0) (wordAt b (2 * i + 1)) (pos 100_000_000)) 6
     0)
 
--- "2 latitude": "minute; y0 (0.01 ft); Δy (0.00001); H (0.000001); ΔH (10⁻⁸); V (0.000001); ΔV (10⁻⁸); a (0.001)"
+-- "2 latitude": "minute; y0 (0.01 ft); Δy (0.00001); H (0.000001); ΔH (10⁻⁸); V (0.000001); ΔV (10⁻⁸); a (0.001)".
+-- The four figures, the three differences, and the row of both with its minute.
 unfoldable pub figuresAt : List ℕ → ℕ → Figures
 figuresAt b i = record { y0 = wordAt b (8 * i + 1); h = wordAt b (8 * i + 3); v = wordAt b (8 * i + 5); a = wordAt b (8 * i + 7) }
 
@@ -34,12 +38,11 @@ differencesAt b i = record { y = wordAt b (8 * i + 2); h = wordAt b (8 * i + 4);
 abbrev pub rowAt : List ℕ → ℕ → Row
 rowAt b i = record { minute = wordAt b (8 * i); figures = figuresAt b i; differences = differencesAt b i }
 
--- "minute 0 to 5,400" and the four figures
+-- "minute 0 to 5,400" and the four figures. Δy, ΔH and ΔV have no range: 9 fixes them.
 unfoldable pub rowInRange : Row → Bool
 rowInRange row = inRange (pos 0) (row .minute) (pos 5_400) && figuresInRange (row .figures)
 
--- "in each row 6, 7, 8, 9, where 7 to 9 look at the next row": 6 "a figure outside its range"; 7 "next minute not one more"; 8 "a row difference outside its
--- bounds"; 9 "Δy, ΔH or ΔV not as stated".
+-- A row that another follows.
 unfoldable pub pairFault : Row → Row → ℕ
 pairFault row next =
     need (rowInRange row) 6
@@ -55,10 +58,11 @@ lastFault row =
     (need (sameDifferences (row .differences) noDifferences) 9
     0)
 
+-- Row i of n has a next where i + 1 is below n.
 unfoldable pub latitudeFault : List ℕ → ℕ → ℕ → ℕ
 latitudeFault b n i = whereBelow (i + 1) n (pairFault (rowAt b i) (rowAt b (i + 1))) (lastFault (rowAt b i))
 
--- "3 longitude": "b (0.001); c (0.001)", "b ±20,000, c ±2,000; row 0 both 0"; "Next b's differ by at most 1,000."
+-- "3 longitude": "b (0.001); c (0.001)", "b ±20,000, c ±2,000; row 0 both 0", 6; then "Next b's differ by at most 1,000", 8.
 unfoldable pub longitudeFault : List ℕ → ℕ → ℕ → ℕ
 longitudeFault b n i =
     need (inRange (negℤ (pos 20_000)) (wordAt b (2 * i)) (pos 20_000)) 6

@@ -24,7 +24,7 @@ withinBounds f next =
     && rises (f .a) (next .a) (negℤ (pos 10)) (pos 10)
 
 -- "Δy, ΔH and ΔV are the differences over 60 seconds: nearest whole to 1000(y0 next − y0)/60, 100(H − H next)/60, 100(V next − V)/60
--- (no half can occur)"
+-- (no half can occur)". "They are checked; conversion uses the rows themselves."
 unfoldable pub differencesOf : Figures → Figures → Differences
 differencesOf f next = record {
   y = perSecond 1_000 (next .y0 -ℤ f .y0);
