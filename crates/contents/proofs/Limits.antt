@@ -1,17 +1,14 @@
 -- What `within` and `sized` tell of the numbers. Assumes nothing.
-use mathlib.Core.Path.{_≡_, refl}
-use mathlib.Core.Bool.{Bool, true, false, not, _&&_}
+use mathlib.Core.Path.{_≡_}
+use mathlib.Core.Bool.{Bool, true, false, not}
 use mathlib.Core.List.{List}
 use Prim.Native.Nat.{ℕ, _%_, _≤_}
 use lib.Dec.{leb, eqb}
 use lib.ListN.{length}
 use borrow.Author.Tests.{leb-true, eqb-true, not-true, not-false}
+use Rattle.figures.proofs.Tests.{both}
 use Rattle.contents.specs.Layout.{leastBytes, mostBytes, lastKind}
 use Rattle.contents.specs.Contents.{within, sized}
-
-both : (a b : Bool) → (a && b) ≡ true → (a ≡ true) × (b ≡ true)
-both true b e = (refl, e)
-both false b e = (e, cc)
 
 pub within-true : (least n most : ℕ) → within least n most ≡ true → (least ≤ n) × (n ≤ most)
 unfolding within

@@ -1,6 +1,8 @@
 -- Laws that belong to no one function. Other crates cite them too.
 pub mod Ring
 pub mod Sizes
+pub mod Order
+pub mod Tests
 pub mod Holds
 pub mod Rounding
 pub mod Interval

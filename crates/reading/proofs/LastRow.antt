@@ -9,7 +9,7 @@ use native.Mathlib.Omega.{arith}
 use lib.IntN.{ℤ}
 use lib.Signed.{leZ, ltZ}
 use Rattle.reading.specs.Rows.{lastNotAbove, Rising}
-use Rattle.reading.proofs.Order.{above-of, not-above-of, ltZ-trans}
+use Rattle.figures.proofs.Order.{above-of, not-above-of, ltZ-trans}
 
 module _ (f : ℕ → ℤ) (z : ℤ) where
   -- it is one of the n rows

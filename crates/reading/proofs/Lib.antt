@@ -1,5 +1,4 @@
--- Laws of reading tables: the order of ℤ, rising columns, the row of a reduced northing, what a reading needs and what it depends on. Other crates cite them.
-pub mod Order
+-- Laws of reading tables: rising columns, the row of a reduced northing, what a reading needs and what it depends on. Other crates cite them.
 pub mod LastRow
 pub mod Rising
 pub mod Within

@@ -9,7 +9,7 @@ use native.Mathlib.Omega.{arith}
 use lib.IntN.{ℤ, pos, _+ℤ_, +ℤ-idr, +ℤ-assoc}
 use lib.Signed.{leZ, ltZ}
 use Rattle.reading.specs.Rows.{RisesBy, Rising}
-use Rattle.reading.proofs.Order.{leZ-refl, leZ-trans, ltZ-leZ, leZ-shift, heights-le, heights-lt, below-height}
+use Rattle.figures.proofs.Order.{leZ-refl, leZ-trans, ltZ-leZ, leZ-shift, heights-le, heights-lt, below-height}
 
 -- higher rises pass fewer rows
 pub fewer-rows : (d : ℕ) {least most : ℕ} → 0 < least → least ≤ most → d / most ≤ d / least

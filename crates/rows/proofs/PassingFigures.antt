@@ -11,7 +11,7 @@ use Rattle.words.specs.Words.{wordAt}
 use Rattle.words.proofs.Refusals.{where-beyond}
 use Rattle.rules.specs.Limits.{inRange, rises}
 use Rattle.rules.specs.Latitude.{figuresInRange, differencesOf, noDifferences}
-use Rattle.rules.proofs.Tests.{both}
+use Rattle.figures.proofs.Tests.{both}
 use Rattle.rules.proofs.WhatPasses.{Size, range-size, rises-most, rises-sizes, InRange, figures-in, Bounded, figures-bounded, differences-are}
 use Rattle.rows.specs.Rows.{zeroFirst, figuresAt, differencesAt, rowAt, rowInRange}
 use Rattle.rows.proofs.PassingRows.{LatitudeRow, LongitudeRow}

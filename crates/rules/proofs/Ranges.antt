@@ -9,7 +9,7 @@ use mir.Syntax.{Width}
 use mir.Val.{SFits, toZ, ofZ}
 use mir.Facts.{toZ-ofZ}
 use Rattle.rules.specs.Limits.{inRange, sameAs}
-use Rattle.rules.proofs.Tests.{both}
+use Rattle.figures.proofs.Tests.{both}
 
 -- what a figure in its range has
 pub range-true : (least x most : ℤ) → inRange least x most ≡ true → (leZ least x ≡ true) × (leZ x most ≡ true)

@@ -15,7 +15,7 @@ use Rattle.rules.specs.declared.Figures.{Figures}
 use Rattle.rules.specs.declared.Differences.{Differences}
 use Rattle.rules.specs.Limits.{inRange, rises}
 use Rattle.rules.specs.Latitude.{figuresInRange, withinBounds, sameDifferences}
-use Rattle.rules.proofs.Tests.{both}
+use Rattle.figures.proofs.Tests.{both}
 use Rattle.rules.proofs.Ranges.{range-true, same-true}
 
 -- ---- one figure

@@ -7,7 +7,7 @@ use lib.Signed.{leZ}
 use mir.Syntax.{w32, w64}
 use mir.Val.{ofZ}
 use Rattle.figures.proofs.Holds.{Holds, held, held-i32, cast-fits, cast, difference-fits, difference, unsigned-fits, unsigned}
-use Rattle.reading.proofs.Order.{difference-nonNeg, height-is}
+use Rattle.figures.proofs.Order.{difference-nonNeg, height-is}
 use Rattle.reading.proofs.height.Statement.{statement}
 use Rattle.reading.proofs.height.Tie as tie
 

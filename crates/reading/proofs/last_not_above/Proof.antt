@@ -11,7 +11,7 @@ use mir.Val.{toZ, ofZ}
 use mir.Facts.{toZ-ofZ}
 use Rattle.reading.specs.Tables.{column}
 use Rattle.reading.specs.Rows.{lastNotAbove, Rising}
-use Rattle.reading.proofs.Order.{above-of}
+use Rattle.figures.proofs.Order.{above-of}
 use Rattle.reading.proofs.LastRow.{only-last}
 use Rattle.reading.proofs.Within.{row-within}
 use Rattle.reading.proofs.last_not_above.Statement.{statement}

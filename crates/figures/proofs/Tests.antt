@@ -1,4 +1,4 @@
--- Rules that hold together. Assumes nothing.
+-- Of two tests that hold together, each holds. Assumes nothing.
 use mathlib.Core.Path.{_≡_, refl}
 use mathlib.Core.Bool.{Bool, true, false, _&&_}
 
