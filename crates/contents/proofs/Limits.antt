@@ -5,8 +5,9 @@ use mathlib.Core.List.{List}
 use Prim.Native.Nat.{ℕ, _%_, _≤_}
 use lib.Dec.{leb, eqb}
 use lib.ListN.{length}
-use borrow.Author.Tests.{leb-true, eqb-true, not-true, not-false}
+use borrow.Author.Tests.{leb-true, eqb-true}
 use Rattle.figures.proofs.Tests.{both}
+use Rattle.words.proofs.Refusals.{kept}
 use Rattle.contents.specs.Layout.{leastBytes, mostBytes, lastKind}
 use Rattle.contents.specs.Contents.{within, sized}
 
@@ -18,18 +19,9 @@ within-true least n most e =
 
 -- a kind that was found among the kinds is one
 pub known-below : (kind : ℕ) (f : Bool) → f ≡ within 1 kind lastKind → not f ≡ false → kind ≤ lastKind
-known-below kind f t p = let h : within 1 kind lastKind ≡ true = cc (not-false f p) in within-true 1 kind lastKind h .1
+known-below kind f t p = within-true 1 kind lastKind (kept (within 1 kind lastKind) f t p) .1
 
--- ---- the length, in the shape of the code's test
-module _ (s : List ℕ) (f : Bool) (t : f ≡ within leastBytes (length s) mostBytes) where
-  pub sized-no : not f ≡ true → false ≡ sized s
-  unfolding sized
-  sized-no x = cc (not-true f x)
-
-  pub sized-yes : not f ≡ false → eqb (length s % 4) 0 ≡ sized s
-  unfolding sized
-  sized-yes x = cc (not-false f x)
-
+-- ---- the length
 pub sized-true : (s : List ℕ) → sized s ≡ true → (leastBytes ≤ length s) × (length s ≤ mostBytes) × (length s % 4 ≡ 0)
 unfolding sized
 sized-true s e =
@@ -38,4 +30,4 @@ sized-true s e =
     (l .0, l .1, eqb-true (length s % 4) 0 (h .1))
 
 pub long : (s : List ℕ) (f : Bool) → f ≡ sized s → not f ≡ false → leastBytes ≤ length s
-long s f t p = sized-true s (let h : sized s ≡ true = cc (not-false f p) in h) .0
+long s f t p = sized-true s (kept (sized s) f t p) .0

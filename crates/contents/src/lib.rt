@@ -102,10 +102,7 @@ fn size_at(s: &[u8], i: usize) -> usize
 fn is_within(least: usize, n: usize, most: usize) -> bool
     ensures { λ r. ⌜ r ≡ within least n most ⌝ }
 {
-    if n < least {
-        return false;
-    }
-    n <= most
+    (least <= n) & (n <= most)
 }
 
 // Whether a is b.
@@ -251,10 +248,7 @@ fn is_sized(s: &[u8]) -> bool
     ensures { λ r. ⌜ r ≡ sized (now (s .entry)) ⌝ }
 {
     let n = s.len();
-    if !is_within(LEAST_BYTES, n, MOST_BYTES) {
-        return false;
-    }
-    n % 4 == 0
+    is_within(LEAST_BYTES, n, MOST_BYTES) & (n % 4 == 0)
 }
 
 // Whether word 0 is the number of entries.
