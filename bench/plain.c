@@ -1,4 +1,4 @@
-// The check in plain C: the same rules in the same order, with no proofs. It stands beside the library as the measure of its speed.
+// The check and the conversions in plain C: the same rules in the same order, with no proofs. They stand beside the library as the measure of its speed.
 #include "plain.h"
 
 static int32_t word(const uint8_t *s, size_t i) {
@@ -9,7 +9,7 @@ static int32_t word(const uint8_t *s, size_t i) {
 static int within(int64_t least, int64_t x, int64_t most) { return least <= x && x <= most; }
 
 // n/d to the nearest, a half away from zero.
-static int64_t nearest(int64_t n, int64_t d) { return n < 0 ? -((-2 * n + d) / (2 * d)) : (2 * n + d) / (2 * d); }
+static int64_t nearest(int64_t n, int64_t d) { return (n + (n < 0 ? -d / 2 : d / 2)) / d; }
 
 static const uint32_t WIDTH[7] = {0, 2, 8, 2, 2, 1, 1};
 static const uint32_t LEAST[7] = {0, 1, 2, 2, 2, 2, 2};
@@ -75,4 +75,115 @@ verdict plain_check(const uint8_t *s, size_t length) {
             if (number) return found(number, kind, i);
         }
     return found(0, 0, 0);
+}
+
+// Each table's step, in the unit of what it is read at: 0.001″, 0.001″, 1″ (for the approximate L) and 0.01 ft.
+enum { MINUTE = 60000, LONGITUDE = 100000, LONGITUDE_SECONDS = 100, NORTHING = 10000000, EASTING = 5000000, SCALE = 500000 };
+
+places plain_places(const uint8_t *s) {
+    places p = {0};
+    for (size_t e = 0; e < 6; e++) {
+        int32_t kind = word(s, 3 * e + 1);
+        p.start[kind] = word(s, 3 * e + 2), p.rows[kind] = word(s, 3 * e + 3);
+    }
+    return p;
+}
+
+static const uint8_t *body(const uint8_t *s, const places *p, size_t kind) { return s + 4 * p->start[kind]; }
+
+// How far from row 0 the last row lies.
+static int64_t reach(const places *p, size_t kind, int64_t step) { return (p->rows[kind] - 1) * step; }
+
+// n/d to the nearest, for n not below 0.
+static int64_t nearest_size(uint64_t n, uint64_t d) { return (n + d / 2) / d; }
+
+// Two rows next to each other, and how far beyond the first an offset lies. The last row is the second of its two, a whole step beyond the first.
+typedef struct {
+    const uint8_t *row;
+    int64_t t;
+} pair;
+
+static pair pair_at(const uint8_t *s, const places *p, size_t kind, uint32_t offset, uint32_t step) {
+    uint32_t row = offset / step, most = p->rows[kind] - 2;
+    if (row > most) row = most;
+    pair r = {body(s, p, kind) + 4 * WIDTH[kind] * row, offset - row * step};
+    return r;
+}
+
+// A column's value there; width is the words in a row.
+static int64_t between(pair r, size_t width, size_t column, int64_t step) {
+    int64_t u = word(r.row, column), w = word(r.row, width + column);
+    return nearest(u * step + (w - u) * r.t, step);
+}
+
+// The same for a column that is never below 0.
+static int64_t size_between(pair r, size_t width, size_t column, int64_t step) {
+    int64_t u = word(r.row, column), w = word(r.row, width + column);
+    return nearest_size(u * step + (w - u) * r.t, step);
+}
+
+plane plain_forward(const uint8_t *s, const places *p, int32_t latitude, int32_t longitude) {
+    int64_t north = latitude - (int64_t)MINUTE * word(body(s, p, 2), 0);
+    if (!within(0, north, reach(p, 2, MINUTE))) return (plane){10, 0, 0};
+    int64_t l = word(body(s, p, 1), 0) - (int64_t)longitude, size = l < 0 ? -l : l;
+    if (!within(0, longitude, 648000000) || size > reach(p, 3, LONGITUDE)) return (plane){11, 0, 0};
+    pair r = pair_at(s, p, 2, north, MINUTE), e = pair_at(s, p, 3, size, LONGITUDE);
+    int64_t y0 = size_between(r, 8, 1, MINUTE), h = size_between(r, 8, 3, MINUTE), v = size_between(r, 8, 5, MINUTE), a = between(r, 8, 7, MINUTE);
+    int64_t b = between(e, 2, 0, LONGITUDE), c = between(e, 2, 1, LONGITUDE);
+    int64_t q = nearest_size(size * size, 10000000);
+    int64_t x = nearest_size(h * size + 1000 * a * b, 10000000);
+    int64_t rise = nearest(v * q + 1000000 * c, 10000000);
+    return (plane){0, word(body(s, p, 1), 1) + (l < 0 ? -x : x), y0 + rise};
+}
+
+// P(x'/10,000)² + d to the nearest hundredth. It is n/10¹⁵ with n past 64 bits; 10¹⁵ is 2¹⁵·5¹⁵, so that a shift comes first and 64 bits are enough.
+static int64_t reduction(int64_t p, int64_t size, int64_t d) {
+    const int64_t ONE = 1000000000000000;
+    __int128 n = (__int128)(size * size) * p + (__int128)d * ONE;
+    if (n < 0) return -nearest_size(-n, ONE);
+    return (uint64_t)((n + ONE / 2) >> 15) / 30517578125;
+}
+
+// The last row with y0 not above the reduced northing, the last row of all left out. From row to row y0 rises by 600,000 to 615,000.
+static size_t row_of(const uint8_t *b, size_t rows, int32_t reduced) {
+    uint32_t above = reduced - word(b, 1), first = above / 615000, last = above / 600000;
+    if (first > rows - 2) first = rows - 2;
+    if (last > rows - 2) last = rows - 2;
+    for (uint32_t left = last - first; left;) {
+        uint32_t half = (left + 1) / 2;
+        if (word(b, 8 * (first + half) + 1) <= reduced) first += half;
+        left -= half;
+    }
+    return first;
+}
+
+geographic plain_inverse(const uint8_t *s, const places *p, int32_t x, int32_t y) {
+    int64_t x1 = x - (int64_t)word(body(s, p, 1), 1), size = x1 < 0 ? -x1 : x1;
+    if (size > reach(p, 5, EASTING)) return (geographic){12, 0, 0};
+    if (!within(0, y, reach(p, 4, NORTHING))) return (geographic){13, 0, 0};
+    int64_t d = between(pair_at(s, p, 5, size, EASTING), 1, 0, EASTING);
+    int64_t reduced = y - reduction(size_between(pair_at(s, p, 4, y, NORTHING), 2, 0, NORTHING), size, d);
+    const uint8_t *b2 = body(s, p, 2);
+    size_t rows = p->rows[2];
+    if (!within(word(b2, 1), reduced, word(b2, 8 * (rows - 1) + 1))) return (geographic){14, 0, 0};
+    pair r = {b2 + 32 * row_of(b2, rows, reduced), 0};
+    int64_t y0 = word(r.row, 1);
+    // 60.000 seconds, or the last row, is the second of the two rows: a whole step.
+    r.t = nearest_size(MINUTE * (reduced - y0), word(r.row, 9) - y0);
+    int64_t h = size_between(r, 8, 3, MINUTE), a = between(r, 8, 7, MINUTE);
+    int64_t near = nearest_size(10000 * size, h);
+    if (near > reach(p, 3, LONGITUDE_SECONDS)) return (geographic){11, 0, 0};
+    int64_t b = between(pair_at(s, p, 3, near, LONGITUDE_SECONDS), 2, 0, LONGITUDE_SECONDS);
+    int64_t l = nearest_size(1000 * (10000 * size - a * b), h);
+    if (l > reach(p, 3, LONGITUDE)) return (geographic){11, 0, 0};
+    return (geographic){0, MINUTE * word(r.row, 0) + r.t, word(body(s, p, 1), 0) - (x1 < 0 ? -l : l)};
+}
+
+grid plain_convergence(const uint8_t *s, const places *p, int32_t x, int32_t y) {
+    int64_t x1 = x - (int64_t)word(body(s, p, 1), 1), size = x1 < 0 ? -x1 : x1;
+    if (size > reach(p, 6, SCALE)) return (grid){12, 0, 0};
+    if (!within(0, y, reach(p, 4, NORTHING))) return (grid){13, 0, 0};
+    int64_t m = size_between(pair_at(s, p, 4, y, NORTHING), 2, 1, NORTHING);
+    int64_t turn = nearest_size(m * size, 100000000);
+    return (grid){0, x1 < 0 ? -turn : turn, size_between(pair_at(s, p, 6, size, SCALE), 1, 0, SCALE)};
 }

@@ -1,4 +1,4 @@
-// The same rules in plain C.
+// The same rules in plain C. Latitude and west longitude are in 0.001″, x and y in 0.01 ft, the convergence in 0.1″ and the scale in 10⁻⁷.
 #include <stddef.h>
 #include <stdint.h>
 
@@ -8,3 +8,28 @@ typedef struct {
 } verdict;
 
 verdict plain_check(const uint8_t *sheet, size_t length);
+
+// Each kind's first word and its rows, worked once a sheet. It and the conversions are for a sheet that passes the check.
+typedef struct {
+    uint32_t start[7], rows[7];
+} places;
+
+typedef struct {
+    uint32_t number;
+    int32_t x, y;
+} plane;
+
+typedef struct {
+    uint32_t number;
+    int32_t latitude, longitude;
+} geographic;
+
+typedef struct {
+    uint32_t number;
+    int32_t convergence, scale;
+} grid;
+
+places plain_places(const uint8_t *sheet);
+plane plain_forward(const uint8_t *sheet, const places *p, int32_t latitude, int32_t longitude);
+geographic plain_inverse(const uint8_t *sheet, const places *p, int32_t x, int32_t y);
+grid plain_convergence(const uint8_t *sheet, const places *p, int32_t x, int32_t y);

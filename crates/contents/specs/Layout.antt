@@ -1,5 +1,5 @@
--- How a sheet is laid out: "A table of contents comes first, then the bodies." The one place for the counts of the contents, and for each kind's words in a row and limits of
--- rows.
+-- How a sheet is laid out: "A table of contents comes first, then the bodies." The one place for the counts of the contents, and for each kind's words in a row, limits of
+-- rows and step.
 use mathlib.Core.List.{[], _∷_}
 use Prim.Native.Nat.{ℕ}
 use lib.ListN.{getD}
@@ -57,3 +57,8 @@ leastRows kind = getD (0 ∷ 1 ∷ 2 ∷ 2 ∷ 2 ∷ 2 ∷ 2 ∷ []) kind 0
 
 abbrev pub mostRows : ℕ → ℕ
 mostRows kind = getD (0 ∷ 1 ∷ 1_200 ∷ 61 ∷ 100 ∷ 10 ∷ 200 ∷ []) kind 0
+
+-- The step from a row to the next, by kind, in the point's unit: a minute of latitude, "step 100″", "step 100,000 ft", "step 50,000 ft", "step 5,000 ft". The zone has one row
+-- and no step.
+abbrev pub stepOf : ℕ → ℕ
+stepOf kind = getD (0 ∷ 0 ∷ 60_000 ∷ 100_000 ∷ 10_000_000 ∷ 5_000_000 ∷ 500_000 ∷ []) kind 0

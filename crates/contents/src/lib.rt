@@ -6,7 +6,7 @@ ghost use lib.ListN.{length};
 ghost use lib.Dec.{eqb};
 ghost use Rattle.words.specs.Words.{unsignedAt};
 ghost use Rattle.words.specs.Faults.{firstFault};
-ghost use Rattle.contents.specs.Layout.{entryCount, lastKind, leastBytes, widthOf, leastRows, mostRows};
+ghost use Rattle.contents.specs.Layout.{entryCount, lastKind, leastBytes, widthOf, stepOf, leastRows, mostRows};
 ghost use Rattle.contents.specs.Entries.{kindAt, startAt, rowsAt, spanAt, named, dueAt, entryOf, startOf, rowsOf, placeOf, placesOf};
 ghost use Rattle.contents.specs.Contents.{within, entryFault, sized, ends, contentsOf};
 
@@ -59,12 +59,14 @@ pub const SCALE: usize = 6;
 
 pub const LAST_KIND: usize = SCALE;
 
-// By kind: words in a row, least rows, most rows. There is no kind 0.
+// By kind: words in a row, least rows, most rows, and the step from a row to the next. There is no kind 0.
 const WIDTHS: [usize; 7] = [0, 2, 8, 2, 2, 1, 1];
 
 const LEAST_ROWS: [usize; 7] = [0, 1, 2, 2, 2, 2, 2];
 
 const MOST_ROWS: [usize; 7] = [0, 1, 1_200, 61, 100, 10, 200];
+
+const STEPS: [u64; 7] = [0, 0, 60_000, 100_000, 10_000_000, 5_000_000, 500_000];
 
 // Words in a row of the kind.
 pub fn width_of(kind: usize) -> usize
@@ -72,6 +74,14 @@ pub fn width_of(kind: usize) -> usize
     ensures { λ r. ⌜ r ≡ widthOf kind ⌝ }
 {
     WIDTHS[kind]
+}
+
+// The step from a row of the kind to the next, in the point's unit.
+pub fn step_of(kind: usize) -> u64
+    requires { ⌜ kind ≤ lastKind ⌝ }
+    ensures { λ r. ⌜ r ≡ stepOf kind ⌝ }
+{
+    STEPS[kind]
 }
 
 // The least rows that the kind may have.

@@ -132,3 +132,14 @@ pub leZ-sizes : (a b : ℤ) → T (nonNeg a) → T (nonNeg b) → leZ a b ≡ le
 leZ-sizes (pos a) (pos b) s t = refl
 leZ-sizes (pos a) (negsuc b) s t = absurd t
 leZ-sizes (negsuc a) b s t = absurd s
+
+-- ---- a number that is a size
+-- x is a size from least to most
+pub record Size (least : ℕ) (x : ℤ) (most : ℕ) : Type 0 where
+  pub is : x ≡ pos (natAbs x)
+  pub low : least ≤ natAbs x
+  pub high : natAbs x ≤ most
+
+-- so it is not negative
+pub size-nonNeg : {least most : ℕ} {x : ℤ} → Size least x most → T (nonNeg x)
+size-nonNeg h = rw (h .is) tt

@@ -55,6 +55,10 @@ mostWord = 2_147_483_648
 abbrev pub mostRow : ℕ
 mostRow = 10_000_000_000
 
+-- how many rows a table has: 1,200 are latitude's most
+abbrev pub mostCount : ℕ
+mostCount = 10_000
+
 -- a table's step, in the point's unit: 10,000,000 is kind 4's, and latitude rows may come to stand 1,666 minutes apart
 abbrev pub mostStep : ℕ
 mostStep = 100_000_000

@@ -2,4 +2,6 @@
 pub mod LastRow
 pub mod Rising
 pub mod Within
+pub mod Span
+pub mod Values
 pub mod Local

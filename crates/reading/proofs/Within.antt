@@ -5,6 +5,19 @@ use native.Mathlib.Nat.{mul-suc, mul-le-mul-left, div-add-mod', le-of-mul-le-mul
 use native.Mathlib.Omega.{arith}
 use lib.ListN.{length}
 
+-- ---- the rows between which an offset falls are there
+module _ (n step offset : ℕ) (p : 0 < step) (m : 0 < n) (h : offset ≤ (n - 1) * step) where
+  pub this-there : offset / step < n
+  this-there =
+      let row : offset / step ≤ n - 1 = le-of-mul-le-mul-right {k = step} (omega (arith, div-add-mod' offset step)) p in
+      omega arith
+
+  pub next-there : 0 < offset % step → offset / step + 1 < n
+  next-there r =
+      let below : offset / step < n - 1 = lt-of-mul-lt-mul-right step (omega (arith, div-add-mod' offset step)) in
+      omega arith
+
+-- ---- and their words
 module _ (b : List ℕ) (w c n : ℕ) (rows : 4 * (w * n) ≤ length b) (inside : c < w) where
   -- row i's word
   pub row-within : (i : ℕ) → i < n → 4 * (w * i + c) + 4 ≤ length b
@@ -17,11 +30,7 @@ module _ (b : List ℕ) (w c n : ℕ) (rows : 4 * (w * n) ≤ length b) (inside 
   -- what `value_at` asks
   pub value-within : (step offset : ℕ) → 0 < step → 0 < n → offset ≤ (n - 1) * step
       → (4 * (w * (offset / step) + c) + 4 ≤ length b) × (0 < offset % step → 4 * (w * (offset / step) + c + w) + 4 ≤ length b)
-  value-within step offset p m h =
-      let parts = div-add-mod' offset step in
-      let row : offset / step ≤ n - 1 = le-of-mul-le-mul-right {k = step} (omega (arith, parts)) p in (
-        row-within (offset / step) (omega arith),
-        λ r.
-            let below : offset / step < n - 1 = lt-of-mul-lt-mul-right step (omega (arith, parts)) in
-            next-within (offset / step) (omega arith),
-      )
+  value-within step offset p m h = (
+    row-within (offset / step) (this-there n step offset p m h),
+    λ r. next-within (offset / step) (omega (arith, next-there n step offset p m h r)),
+  )

@@ -1,7 +1,9 @@
 -- Reading a table between its rows, over the body's part, whatever its step.
+use mathlib.Core.Bool.{Bool, _&&_}
 use mathlib.Core.List.{List}
-use Prim.Native.Nat.{ℕ, _+_, _*_, _/_, _%_}
-use lib.IntN.{ℤ}
+use Prim.Native.Nat.{ℕ, _+_, _-_, _*_, _/_, _%_}
+use lib.IntN.{ℤ, pos}
+use lib.Signed.{leZ}
 use Rattle.figures.specs.Between.{between}
 use Rattle.words.specs.Words.{wordAt}
 
@@ -18,3 +20,8 @@ pastRow f i t step = between (f i) (f (i + 1)) t step
 -- the row after it, which is not there, then counts 0 times. An offset past the last row is for its user to refuse first.
 unfoldable pub valueAt : (ℕ → ℤ) → ℕ → ℕ → ℤ
 valueAt f step offset = pastRow f (offset / step) (offset % step) step
+
+-- z lies from row 0 to the last of so many rows, which stands one step less than there are rows from row 0. It is false exactly where z is "below the first or above
+-- the last row", as 10, 11, 12 and 13 say it of their tables.
+unfoldable pub withinRows : ℕ → ℕ → ℤ → Bool
+withinRows rows step z = leZ (pos 0) z && leZ z (pos ((rows - 1) * step))

@@ -5,9 +5,9 @@ ghost use Prim.Native.Nat.{_+_, _*_, _/_, _%_, _^_, _<_, _≤_, min};
 ghost use lib.ListN.{length};
 ghost use lib.IntN.{pos, natAbs, _+ℤ_};
 ghost use lib.Signed.{leZ, ltZ};
-ghost use Rattle.figures.specs.Ranges.{mostStep};
+ghost use Rattle.figures.specs.Ranges.{mostCount, mostStep};
 ghost use Rattle.words.specs.Words.{wordAt};
-ghost use Rattle.reading.specs.Tables.{column, pastRow, valueAt};
+ghost use Rattle.reading.specs.Tables.{column, pastRow, valueAt, withinRows};
 ghost use Rattle.reading.specs.Rows.{lastNotAbove, RisesBy, Rising};
 
 // The value of column c at t past row i, for a body of w words in a row. At t = 0 the next row is not looked at.
@@ -30,6 +30,15 @@ pub fn value_at(b: &[u8], w: usize, c: usize, step: u64, offset: u64) -> i64
     ensures { λ r. ⌜ r ≡ valueAt (column (now (b .entry)) w c) step offset ⌝ }
 {
     past_row(b, w, c, (offset / step) as usize, offset % step, step)
+}
+
+// Whether z lies from row 0 to the last row.
+pub fn within_rows(rows: usize, step: u64, z: i64) -> bool
+    requires { ⌜ (0 < rows) × (rows ≤ mostCount) × (step ≤ mostStep) ⌝ }
+    ensures { λ r. ⌜ r ≡ withinRows rows step z ⌝ }
+{
+    let last = ((rows - 1) as u64) * step;
+    (0 <= z) & (z <= (last as i64))
 }
 
 // Whether row i's figure in column c is not above z.

@@ -6,13 +6,13 @@ use mathlib.Core.List.{List}
 use Prim.Native.Nat.{ℕ, zero, suc, _+_, _*_, _-_, _<_, _≤_}
 use native.Mathlib.Omega.{arith}
 use lib.IntN.{ℤ, pos, natAbs, _-ℤ_, -ℤ-+ℤ-cancel}
-use Rattle.figures.proofs.Sizes.{size-sum}
+use Rattle.figures.proofs.Sizes.{Size, size-sum}
 use Rattle.words.specs.Words.{wordAt}
 use Rattle.words.proofs.Refusals.{where-beyond}
 use Rattle.rules.specs.Limits.{inRange, rises}
 use Rattle.rules.specs.Latitude.{figuresInRange, differencesOf, noDifferences}
 use Rattle.figures.proofs.Tests.{both}
-use Rattle.rules.proofs.WhatPasses.{Size, range-size, rises-most, rises-sizes, InRange, figures-in, Bounded, figures-bounded, differences-are}
+use Rattle.rules.proofs.WhatPasses.{range-size, rises-most, rises-sizes, InRange, figures-in, Bounded, figures-bounded, differences-are}
 use Rattle.rows.specs.Rows.{zeroFirst, figuresAt, differencesAt, rowAt, rowInRange}
 use Rattle.rows.proofs.PassingRows.{LatitudeRow, LongitudeRow}
 

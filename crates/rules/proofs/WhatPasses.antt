@@ -10,7 +10,7 @@ use lib.IntN.{ℤ, pos, negsuc, negℤ, natAbs, _-ℤ_}
 use lib.Signed.{nonNeg}
 use borrow.Author.Tests.{leb-true}
 use Rattle.figures.specs.Ranges.{mostChange}
-use Rattle.figures.proofs.Sizes.{within-size, pos-minus, subℕ-le, subℕ-lt}
+use Rattle.figures.proofs.Sizes.{Size, within-size, pos-minus, subℕ-le, subℕ-lt}
 use Rattle.rules.specs.declared.Figures.{Figures}
 use Rattle.rules.specs.declared.Differences.{Differences}
 use Rattle.rules.specs.Limits.{inRange, rises}
@@ -19,12 +19,6 @@ use Rattle.figures.proofs.Tests.{both}
 use Rattle.rules.proofs.Ranges.{range-true, same-true}
 
 -- ---- one figure
--- x is a size from least to most
-pub record Size (least : ℕ) (x : ℤ) (most : ℕ) : Type 0 where
-  pub is : x ≡ pos (natAbs x)
-  pub low : least ≤ natAbs x
-  pub high : natAbs x ≤ most
-
 pub range-size : (least : ℕ) (x : ℤ) (most : ℕ) → inRange (pos least) x (pos most) ≡ true → Size least x most
 range-size least (pos n) most e =
     let r = range-true (pos least) (pos n) (pos most) e in

@@ -1,0 +1,30 @@
+-- "Geographic to plane." Latitude and longitude in 0.001″, x and y in 0.01 ft. s is the sheet.
+use mathlib.Core.List.{List}
+use Prim.Native.Nat.{ℕ}
+use lib.IntN.{ℤ, natAbs, _+ℤ_}
+use Rattle.figures.specs.Nearest.{withSign}
+use Rattle.figures.specs.Steps.{qOf, sizeOfX, rise}
+use Rattle.words.specs.Ladder.{need}
+use Rattle.contents.specs.Layout.{latitude, longitude}
+use Rattle.tables.specs.Figures.{falseEasting, y0At, hAt, vAt, aAt, bAt, cAt}
+use Rattle.extent.specs.Extent.{fromFirst, latitudeKnown, lOf, longitudeKnown}
+use Rattle.convert.specs.declared.Plane.{Plane}
+use Rattle.convert.specs.Answers.{plane, noPlane, afterCheck}
+
+-- "The size of x′ is the nearest hundredth of H·s + a·b, with the sign of L; x = x′ + C." t is the latitude's distance from row 0.
+unfoldable pub xOf : List ℕ → ℕ → ℤ → ℤ
+xOf s t l = withSign l (sizeOfX (hAt s t) (natAbs l) (aAt s t) (bAt s (natAbs l))) +ℤ falseEasting s
+
+-- "y = y0 + nearest hundredth of (V·q + c)."
+unfoldable pub yOf : List ℕ → ℕ → ℤ → ℤ
+yOf s t l = y0At s t +ℤ rise (vAt s t) (qOf (natAbs l)) (cAt s (natAbs l))
+
+-- "forward 10, 11", on a sheet that passes
+unfoldable pub forwardOf : List ℕ → ℤ → ℤ → Plane
+forwardOf s north west =
+    need (latitudeKnown s north) (noPlane 10)
+    (need (longitudeKnown s west) (noPlane 11)
+    (plane 0 (xOf s (natAbs (fromFirst s north)) (lOf s west)) (yOf s (natAbs (fromFirst s north)) (lOf s west))))
+
+unfoldable pub geographicToPlane : List ℕ → ℤ → ℤ → Plane
+geographicToPlane s north west = afterCheck (λ r. r .number) noPlane s (forwardOf s north west)

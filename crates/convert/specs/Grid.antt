@@ -1,0 +1,25 @@
+-- "Convergence and scale", at a plane point. x and y in 0.01 ft, Δα in 0.1″, k in 10⁻⁷. s is the sheet, x′ is written xp.
+use mathlib.Core.List.{List}
+use Prim.Native.Nat.{ℕ}
+use lib.IntN.{ℤ, natAbs}
+use Rattle.figures.specs.Steps.{convergence}
+use Rattle.words.specs.Ladder.{need}
+use Rattle.contents.specs.Layout.{scale}
+use Rattle.tables.specs.Figures.{mAt, kAt}
+use Rattle.extent.specs.Extent.{xPrime, scaleKnown, northingKnown}
+use Rattle.convert.specs.declared.Grid.{Grid}
+use Rattle.convert.specs.Answers.{grid, noGrid, afterCheck}
+
+-- "M is read at y, Δα = M·x′ to 0.1″"
+unfoldable pub convergenceAt : List ℕ → ℤ → ℤ → ℤ
+convergenceAt s xp y = convergence (mAt s (natAbs y)) xp
+
+-- "convergence and scale 12, 13", on a sheet that passes; "k is read at |x′|".
+unfoldable pub gridOf : List ℕ → ℤ → ℤ → Grid
+gridOf s x y =
+    need (scaleKnown s (xPrime s x)) (noGrid 12)
+    (need (northingKnown s y) (noGrid 13)
+    (grid 0 (convergenceAt s (xPrime s x) y) (kAt s (natAbs (xPrime s x)))))
+
+unfoldable pub convergenceAndScale : List ℕ → ℤ → ℤ → Grid
+convergenceAndScale s x y = afterCheck (λ r. r .number) noGrid s (gridOf s x y)

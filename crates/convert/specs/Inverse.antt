@@ -1,0 +1,65 @@
+-- "Plane to geographic." x and y in 0.01 ft, latitude and longitude in 0.001″. s is the sheet, x′ is written xp.
+use mathlib.Core.List.{List}
+use Prim.Native.Nat.{ℕ, _+_, _-_, _*_}
+use lib.IntN.{ℤ, pos, natAbs, _+ℤ_, _-ℤ_}
+use Rattle.figures.specs.Nearest.{withSign}
+use Rattle.figures.specs.Steps.{reduction, seconds, approximateL, sizeOfL}
+use Rattle.words.specs.Ladder.{need, whereBelow}
+use Rattle.contents.specs.Layout.{latitude, northing, stepOf}
+use Rattle.contents.specs.Entries.{rowsOf}
+use Rattle.reading.specs.Rows.{lastNotAbove}
+use Rattle.tables.specs.Figures.{centralMeridian, firstLatitude, y0Of, hAt, aAt, bAt, pAt, dAt}
+use Rattle.extent.specs.Extent.{sizeKnown, xPrime, eastingKnown, northingKnown, reducedKnown}
+use Rattle.convert.specs.declared.Geographic.{Geographic}
+use Rattle.convert.specs.Answers.{geographic, noGeographic, afterCheck}
+
+-- "P is read at y, d at |x′|. Reduced northing = y − nearest hundredth of (P(x′/10,000)² + d)"
+unfoldable pub reducedNorthing : List ℕ → ℤ → ℤ → ℤ
+reducedNorthing s xp y = y -ℤ reduction (pAt s (natAbs y)) (natAbs xp) (dAt s (natAbs xp))
+
+-- "The row is the last with y0 not above it"
+unfoldable pub rowOf : List ℕ → ℤ → ℕ
+rowOf s reduced = lastNotAbove (y0Of s) (rowsOf s latitude) reduced
+
+-- "seconds = 60(reduced − y0)/(y0 next − y0), to 0.001, and 0 at the last row."
+unfoldable pub secondsPast : List ℕ → ℤ → ℕ → ℕ
+secondsPast s reduced row =
+    whereBelow (row + 1) (rowsOf s latitude)
+    (seconds (stepOf latitude) (natAbs (reduced -ℤ y0Of s row)) (natAbs (y0Of s (row + 1) -ℤ y0Of s row)))
+    0
+
+-- The latitude's distance from row 0: the row's, and the seconds. "If that comes to 60.000 the latitude is the next minute": 60.000 past a row is the next row
+-- itself, at which nothing is left to read between rows.
+unfoldable pub distanceOf : List ℕ → ℤ → ℕ
+distanceOf s reduced = rowOf s reduced * stepOf latitude + secondsPast s reduced (rowOf s reduced)
+
+-- "Read H and a there. Approximate L = |x′|/H to a whole second", here in 0.001″. t is the latitude's distance from row 0.
+unfoldable pub approximateOf : List ℕ → ℤ → ℕ → ℕ
+approximateOf s xp t = approximateL (natAbs xp) (hAt s t) * 1_000
+
+-- "b is read at it. The size of L is (|x′| − a·b)/H to 0.001"
+unfoldable pub sizeOf : List ℕ → ℤ → ℕ → ℤ
+sizeOf s xp t = sizeOfL (natAbs xp) (aAt s t) (bAt s (approximateOf s xp t)) (hAt s t)
+
+-- "with the sign of x′. Longitude = central meridian − L."
+unfoldable pub longitudeOf : List ℕ → ℤ → ℕ → ℤ
+longitudeOf s xp t = centralMeridian s -ℤ withSign xp (sizeOf s xp t)
+
+-- "inverse 12, 13, 14, 11", on a sheet that passes; 11: "the size of L (.. approximate or final) above the last kind 3 row".
+unfoldable pub fromDistance : List ℕ → ℤ → ℕ → Geographic
+fromDistance s xp t =
+    need (sizeKnown s (pos (approximateOf s xp t))) (noGeographic 11)
+    (need (sizeKnown s (sizeOf s xp t)) (noGeographic 11)
+    (geographic 0 (firstLatitude s +ℤ pos t) (longitudeOf s xp t)))
+
+unfoldable pub fromReduced : List ℕ → ℤ → ℤ → Geographic
+fromReduced s xp reduced = need (reducedKnown s reduced) (noGeographic 14) (fromDistance s xp (distanceOf s reduced))
+
+unfoldable pub inverseOf : List ℕ → ℤ → ℤ → Geographic
+inverseOf s x y =
+    need (eastingKnown s (xPrime s x)) (noGeographic 12)
+    (need (northingKnown s y) (noGeographic 13)
+    (fromReduced s (xPrime s x) (reducedNorthing s (xPrime s x) y)))
+
+unfoldable pub planeToGeographic : List ℕ → ℤ → ℤ → Geographic
+planeToGeographic s x y = afterCheck (λ r. r .number) noGeographic s (inverseOf s x y)

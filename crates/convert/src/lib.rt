@@ -1,0 +1,281 @@
+// The Survey's conversions on a sheet: geographic to plane, plane to geographic, convergence and scale. Each has two forms with one definition: over any bytes, which
+// are checked first, and over a sheet known to pass, with its places in hand.
+use contents::Places;
+ghost use mathlib.Core.Path.{_≡_};
+ghost use mathlib.Core.Bool.{true};
+ghost use Prim.Native.Nat.{_-_, _*_, _^_, _<_, _≤_};
+ghost use lib.IntN.{pos, natAbs};
+ghost use Rattle.contents.specs.Layout.{latitude, longitude, northing, easting, scale, stepOf};
+ghost use Rattle.contents.specs.Entries.{rowsOf, placesOf};
+ghost use Rattle.bodies.specs.Check.{checkOf};
+ghost use Rattle.extent.specs.Extent.{sizeKnown, eastingKnown, northingKnown, reducedKnown};
+ghost use Rattle.convert.specs.Forward.{xOf, yOf, geographicToPlane};
+ghost use Rattle.convert.specs.Inverse.{reducedNorthing, rowOf, secondsPast, distanceOf, approximateOf, sizeOf, fromDistance, planeToGeographic};
+ghost use Rattle.convert.specs.Grid.{convergenceAndScale};
+
+// A point on the plane: x and y in 0.01 ft. A refusal has its number and zeros.
+pub struct Plane {
+    pub number: u32,
+    pub x: i32,
+    pub y: i32,
+}
+
+// A point on the earth: latitude and west longitude in 0.001″. A refusal has its number and zeros.
+pub struct Geographic {
+    pub number: u32,
+    pub latitude: i32,
+    pub longitude: i32,
+}
+
+// The grid at a point: the convergence Δα in 0.1″ and the scale k in 10⁻⁷. A refusal has its number and zeros.
+pub struct Grid {
+    pub number: u32,
+    pub convergence: i32,
+    pub scale: i32,
+}
+
+// ---- geographic to plane
+
+// x, in 0.01 ft, at the latitude's distance t from row 0 and L.
+fn x_of(s: &[u8], p: Places, t: u64, l: i64) -> i32
+    requires { ⌜ (checkOf (now s) .number ≡ 0) × (p ≡ placesOf (now s)) × (t ≤ (rowsOf (now s) latitude - 1) * stepOf latitude) × (natAbs l ≤ (rowsOf (now s) longitude - 1) * stepOf longitude) ⌝ }
+    ensures { λ r. ⌜ r ≡ xOf (now (s .entry)) t l ⌝ }
+{
+    let size = figures::size(l);
+    let h = tables::h_at(s, p, t);
+    let a = tables::a_at(s, p, t);
+    let b = tables::b_at(s, p, size);
+    let x = figures::with_sign(l, figures::size_of_x(h, size, a, b));
+    (x + tables::false_easting(s, p)) as i32
+}
+
+// y, in 0.01 ft, there.
+fn y_of(s: &[u8], p: Places, t: u64, l: i64) -> i32
+    requires { ⌜ (checkOf (now s) .number ≡ 0) × (p ≡ placesOf (now s)) × (t ≤ (rowsOf (now s) latitude - 1) * stepOf latitude) × (natAbs l ≤ (rowsOf (now s) longitude - 1) * stepOf longitude) ⌝ }
+    ensures { λ r. ⌜ r ≡ yOf (now (s .entry)) t l ⌝ }
+{
+    let size = figures::size(l);
+    let y0 = tables::y0_at(s, p, t);
+    let v = tables::v_at(s, p, t);
+    let c = tables::c_at(s, p, size);
+    (y0 + figures::rise(v, figures::q_of(size), c)) as i32
+}
+
+// Geographic to plane, on a sheet known to pass, with its places.
+pub fn forward(s: &[u8], p: Places, latitude: i32, longitude: i32) -> Plane
+    requires { ⌜ (checkOf (now s) .number ≡ 0) × (p ≡ placesOf (now s)) ⌝ }
+    ensures { λ r. ⌜ r ≡ geographicToPlane (now (s .entry)) latitude longitude ⌝ }
+{
+    if !extent::latitude_known(s, p, latitude) {
+        return Plane {
+            number: 10,
+            x: 0,
+            y: 0,
+        };
+    }
+    if !extent::longitude_known(s, p, longitude) {
+        return Plane {
+            number: 11,
+            x: 0,
+            y: 0,
+        };
+    }
+    let t = extent::from_first(s, p, latitude) as u64;
+    let l = extent::l_of(s, p, longitude);
+    Plane {
+        number: 0,
+        x: x_of(s, p, t, l),
+        y: y_of(s, p, t, l),
+    }
+}
+
+// Geographic to plane: the check's number, 10, 11, or x and y.
+pub fn geographic_to_plane(sheet: &[u8], latitude: i32, longitude: i32) -> Plane
+    ensures { λ r. ⌜ r ≡ geographicToPlane (now (sheet .entry)) latitude longitude ⌝ }
+{
+    let number = bodies::check(sheet).number;
+    if number != 0 {
+        return Plane { number, x: 0, y: 0 };
+    }
+    forward(sheet, contents::places_of(sheet), latitude, longitude)
+}
+
+// ---- plane to geographic
+
+// The reduced northing, in 0.01 ft.
+fn reduced_northing(s: &[u8], p: Places, xp: i64, y: i32) -> i64
+    requires { ⌜ (checkOf (now s) .number ≡ 0) × (p ≡ placesOf (now s)) × (eastingKnown (now s) xp ≡ true) × (northingKnown (now s) y ≡ true) ⌝ }
+    ensures { λ r. ⌜ (r ≡ reducedNorthing (now (s .entry)) xp y) × (natAbs r < 2 ^ 62) ⌝ }
+{
+    let size = figures::size(xp);
+    let north = y as i64;
+    let big_p = tables::p_at(s, p, north as u64);
+    let d = tables::d_at(s, p, size);
+    north - figures::reduction(big_p, size, d)
+}
+
+// The seconds of the reduced northing past its row, in 0.001″.
+fn seconds_past(s: &[u8], p: Places, reduced: i64, row: usize) -> u64
+    requires { ⌜ (checkOf (now s) .number ≡ 0) × (p ≡ placesOf (now s)) × (reducedKnown (now s) reduced ≡ true) × (row ≡ rowOf (now s) reduced) ⌝ }
+    ensures { λ r. ⌜ r ≡ secondsPast (now (s .entry)) reduced row ⌝ }
+{
+    if row + 1 < p.latitude.rows {
+        let y0 = tables::y0_of(s, p, row);
+        let next = tables::y0_of(s, p, row + 1);
+        figures::seconds(
+            contents::step_of(contents::LATITUDE),
+            (reduced - y0) as u64,
+            (next - y0) as u64,
+        )
+    } else {
+        0
+    }
+}
+
+// The distance of the reduced northing's latitude from row 0, in 0.001″.
+fn distance_of(s: &[u8], p: Places, reduced: i64) -> u64
+    requires { ⌜ (checkOf (now s) .number ≡ 0) × (p ≡ placesOf (now s)) × (reducedKnown (now s) reduced ≡ true) × (natAbs reduced < 2 ^ 62) ⌝ }
+    ensures { λ r. ⌜ (r ≡ distanceOf (now (s .entry)) reduced) × (r ≤ (rowsOf (now (s .entry)) latitude - 1) * stepOf latitude) ⌝ }
+{
+    let row = tables::row_of(s, p.latitude, reduced);
+    (row as u64) * contents::step_of(contents::LATITUDE) + seconds_past(s, p, reduced, row)
+}
+
+// Approximate L at the distance t, in 0.001″.
+fn approximate_of(s: &[u8], p: Places, xp: i64, t: u64) -> u64
+    requires { ⌜ (checkOf (now s) .number ≡ 0) × (p ≡ placesOf (now s)) × (eastingKnown (now s) xp ≡ true) × (t ≤ (rowsOf (now s) latitude - 1) * stepOf latitude) ⌝ }
+    ensures { λ r. ⌜ (r ≡ approximateOf (now (s .entry)) xp t) × (r < 2 ^ 62) ⌝ }
+{
+    figures::approximate_l(figures::size(xp), tables::h_at(s, p, t)) * 1_000
+}
+
+// The size of L there, in 0.001″.
+fn size_of(s: &[u8], p: Places, xp: i64, t: u64, approximate: u64) -> i64
+    requires { ⌜ (checkOf (now s) .number ≡ 0) × (p ≡ placesOf (now s)) × (eastingKnown (now s) xp ≡ true) × (t ≤ (rowsOf (now s) latitude - 1) * stepOf latitude) × (approximate ≡ approximateOf (now s) xp t) × (sizeKnown (now s) (pos approximate) ≡ true) ⌝ }
+    ensures { λ r. ⌜ r ≡ sizeOf (now (s .entry)) xp t ⌝ }
+{
+    let h = tables::h_at(s, p, t);
+    let a = tables::a_at(s, p, t);
+    let b = tables::b_at(s, p, approximate);
+    figures::size_of_l(figures::size(xp), a, b, h)
+}
+
+// Latitude and longitude, from x′ and the latitude's distance t from row 0.
+fn from_distance(s: &[u8], p: Places, xp: i64, t: u64) -> Geographic
+    requires { ⌜ (checkOf (now s) .number ≡ 0) × (p ≡ placesOf (now s)) × (eastingKnown (now s) xp ≡ true) × (t ≤ (rowsOf (now s) latitude - 1) * stepOf latitude) ⌝ }
+    ensures { λ r. ⌜ r ≡ fromDistance (now (s .entry)) xp t ⌝ }
+{
+    let approximate = approximate_of(s, p, xp, t);
+    if !extent::size_known(s, p, approximate as i64) {
+        return Geographic {
+            number: 11,
+            latitude: 0,
+            longitude: 0,
+        };
+    }
+    let size = size_of(s, p, xp, t, approximate);
+    if !extent::size_known(s, p, size) {
+        return Geographic {
+            number: 11,
+            latitude: 0,
+            longitude: 0,
+        };
+    }
+    Geographic {
+        number: 0,
+        latitude: (tables::first_latitude(s, p) + (t as i64)) as i32,
+        longitude: (tables::central_meridian(s, p) - figures::with_sign(xp, size)) as i32,
+    }
+}
+
+// Plane to geographic, on a sheet known to pass, with its places.
+pub fn inverse(s: &[u8], p: Places, x: i32, y: i32) -> Geographic
+    requires { ⌜ (checkOf (now s) .number ≡ 0) × (p ≡ placesOf (now s)) ⌝ }
+    ensures { λ r. ⌜ r ≡ planeToGeographic (now (s .entry)) x y ⌝ }
+{
+    let xp = extent::x_prime(s, p, x);
+    if !extent::easting_known(s, p, xp) {
+        return Geographic {
+            number: 12,
+            latitude: 0,
+            longitude: 0,
+        };
+    }
+    if !extent::northing_known(s, p, y) {
+        return Geographic {
+            number: 13,
+            latitude: 0,
+            longitude: 0,
+        };
+    }
+    let reduced = reduced_northing(s, p, xp, y);
+    if !extent::reduced_known(s, p, reduced) {
+        return Geographic {
+            number: 14,
+            latitude: 0,
+            longitude: 0,
+        };
+    }
+    from_distance(s, p, xp, distance_of(s, p, reduced))
+}
+
+// Plane to geographic: the check's number, 12, 13, 14, 11, or latitude and longitude.
+pub fn plane_to_geographic(sheet: &[u8], x: i32, y: i32) -> Geographic
+    ensures { λ r. ⌜ r ≡ planeToGeographic (now (sheet .entry)) x y ⌝ }
+{
+    let number = bodies::check(sheet).number;
+    if number != 0 {
+        return Geographic {
+            number,
+            latitude: 0,
+            longitude: 0,
+        };
+    }
+    inverse(sheet, contents::places_of(sheet), x, y)
+}
+
+// ---- convergence and scale
+
+// Convergence and scale, on a sheet known to pass, with its places.
+pub fn grid(s: &[u8], p: Places, x: i32, y: i32) -> Grid
+    requires { ⌜ (checkOf (now s) .number ≡ 0) × (p ≡ placesOf (now s)) ⌝ }
+    ensures { λ r. ⌜ r ≡ convergenceAndScale (now (s .entry)) x y ⌝ }
+{
+    let xp = extent::x_prime(s, p, x);
+    if !extent::scale_known(s, p, xp) {
+        return Grid {
+            number: 12,
+            convergence: 0,
+            scale: 0,
+        };
+    }
+    if !extent::northing_known(s, p, y) {
+        return Grid {
+            number: 13,
+            convergence: 0,
+            scale: 0,
+        };
+    }
+    let m = tables::m_at(s, p, (y as i64) as u64);
+    let k = tables::k_at(s, p, figures::size(xp));
+    Grid {
+        number: 0,
+        convergence: figures::convergence(m, xp) as i32,
+        scale: k as i32,
+    }
+}
+
+// Convergence and scale: the check's number, 12, 13, or Δα and k.
+pub fn convergence_and_scale(sheet: &[u8], x: i32, y: i32) -> Grid
+    ensures { λ r. ⌜ r ≡ convergenceAndScale (now (sheet .entry)) x y ⌝ }
+{
+    let number = bodies::check(sheet).number;
+    if number != 0 {
+        return Grid {
+            number,
+            convergence: 0,
+            scale: 0,
+        };
+    }
+    grid(sheet, contents::places_of(sheet), x, y)
+}

@@ -1,0 +1,111 @@
+// How far a sheet that passes the check reaches: where a point stands in its tables, and whether that is within their rows, as numbers 10 to 14 ask.
+use contents::Places;
+ghost use mathlib.Core.Path.{_≡_};
+ghost use mathlib.Core.Bool.{true};
+ghost use Prim.Native.Nat.{_-_, _*_, _≤_};
+ghost use lib.IntN.{pos, natAbs};
+ghost use Rattle.contents.specs.Layout.{latitude, stepOf};
+ghost use Rattle.contents.specs.Entries.{rowsOf, placesOf};
+ghost use Rattle.bodies.specs.Check.{checkOf};
+ghost use Rattle.extent.specs.Extent.{fromFirst, latitudeKnown, lOf, sizeKnown, longitudeKnown, xPrime, eastingKnown, scaleKnown, northingKnown, reducedKnown};
+
+// The latitude's distance from row 0, in 0.001″.
+pub fn from_first(s: &[u8], p: Places, latitude: i32) -> i64
+    requires { ⌜ (checkOf (now s) .number ≡ 0) × (p ≡ placesOf (now s)) ⌝ }
+    ensures { λ r. ⌜ r ≡ fromFirst (now (s .entry)) latitude ⌝ }
+{
+    (latitude as i64) - tables::first_latitude(s, p)
+}
+
+// Whether the latitude lies from the first row to the last.
+pub fn latitude_known(s: &[u8], p: Places, latitude: i32) -> bool
+    requires { ⌜ (checkOf (now s) .number ≡ 0) × (p ≡ placesOf (now s)) ⌝ }
+    ensures { λ r. ⌜ r ≡ latitudeKnown (now (s .entry)) latitude ⌝ }
+{
+    reading::within_rows(
+        p.latitude.rows,
+        contents::step_of(contents::LATITUDE),
+        from_first(s, p, latitude),
+    )
+}
+
+// L, in 0.001″.
+pub fn l_of(s: &[u8], p: Places, longitude: i32) -> i64
+    requires { ⌜ (checkOf (now s) .number ≡ 0) × (p ≡ placesOf (now s)) ⌝ }
+    ensures { λ r. ⌜ (r ≡ lOf (now (s .entry)) longitude) × (natAbs r ≤ 2_789_483_648) ⌝ }
+{
+    tables::central_meridian(s, p) - (longitude as i64)
+}
+
+// Whether a size of L is not above the last kind 3 row.
+pub fn size_known(s: &[u8], p: Places, size: i64) -> bool
+    requires { ⌜ (checkOf (now s) .number ≡ 0) × (p ≡ placesOf (now s)) ⌝ }
+    ensures { λ r. ⌜ r ≡ sizeKnown (now (s .entry)) size ⌝ }
+{
+    reading::within_rows(
+        p.longitude.rows,
+        contents::step_of(contents::LONGITUDE),
+        size,
+    )
+}
+
+// Whether the longitude is one that there is, and its L not above the last kind 3 row.
+pub fn longitude_known(s: &[u8], p: Places, longitude: i32) -> bool
+    requires { ⌜ (checkOf (now s) .number ≡ 0) × (p ≡ placesOf (now s)) ⌝ }
+    ensures { λ r. ⌜ r ≡ longitudeKnown (now (s .entry)) longitude ⌝ }
+{
+    let size = figures::size(l_of(s, p, longitude));
+    (0 <= longitude) & (longitude <= 648_000_000) & size_known(s, p, size as i64)
+}
+
+// x′, in 0.01 ft.
+pub fn x_prime(s: &[u8], p: Places, x: i32) -> i64
+    requires { ⌜ (checkOf (now s) .number ≡ 0) × (p ≡ placesOf (now s)) ⌝ }
+    ensures { λ r. ⌜ (r ≡ xPrime (now (s .entry)) x) × (natAbs r ≤ 2_247_483_648) ⌝ }
+{
+    (x as i64) - tables::false_easting(s, p)
+}
+
+// Whether x′ in size is not above the last kind 5 row.
+pub fn easting_known(s: &[u8], p: Places, xp: i64) -> bool
+    requires { ⌜ (checkOf (now s) .number ≡ 0) × (p ≡ placesOf (now s)) × (natAbs xp ≤ 2_247_483_648) ⌝ }
+    ensures { λ r. ⌜ r ≡ eastingKnown (now (s .entry)) xp ⌝ }
+{
+    reading::within_rows(
+        p.easting.rows,
+        contents::step_of(contents::EASTING),
+        figures::size(xp) as i64,
+    )
+}
+
+// Whether x′ in size is not above the last kind 6 row.
+pub fn scale_known(s: &[u8], p: Places, xp: i64) -> bool
+    requires { ⌜ (checkOf (now s) .number ≡ 0) × (p ≡ placesOf (now s)) × (natAbs xp ≤ 2_247_483_648) ⌝ }
+    ensures { λ r. ⌜ r ≡ scaleKnown (now (s .entry)) xp ⌝ }
+{
+    reading::within_rows(
+        p.scale.rows,
+        contents::step_of(contents::SCALE),
+        figures::size(xp) as i64,
+    )
+}
+
+// Whether y lies from 0 to the last kind 4 row.
+pub fn northing_known(s: &[u8], p: Places, y: i32) -> bool
+    requires { ⌜ (checkOf (now s) .number ≡ 0) × (p ≡ placesOf (now s)) ⌝ }
+    ensures { λ r. ⌜ r ≡ northingKnown (now (s .entry)) y ⌝ }
+{
+    reading::within_rows(
+        p.northing.rows,
+        contents::step_of(contents::NORTHING),
+        y as i64,
+    )
+}
+
+// Whether the reduced northing lies from the first y0 to the last.
+pub fn reduced_known(s: &[u8], p: Places, reduced: i64) -> bool
+    requires { ⌜ (checkOf (now s) .number ≡ 0) × (p ≡ placesOf (now s)) ⌝ }
+    ensures { λ r. ⌜ r ≡ reducedKnown (now (s .entry)) reduced ⌝ }
+{
+    (tables::y0_of(s, p, 0) <= reduced) & (reduced <= tables::y0_of(s, p, p.latitude.rows - 1))
+}

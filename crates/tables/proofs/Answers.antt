@@ -1,0 +1,32 @@
+-- What a named figure's function shows of its answer: r is the number that was read, v the figure. Assumes nothing.
+use mathlib.Core.Path.{_≡_, ap, _∙_}
+use Prim.Native.Nat.{ℕ, _^_, _<_, _≤_}
+use lib.Dec.{T, ltb}
+use lib.IntN.{ℤ, natAbs}
+use lib.Signed.{mag, nonNeg}
+use mir.Syntax.{w64}
+use mir.Val.{Fits, toZ, ofZ}
+use Rattle.figures.proofs.Sizes.{Size, size-nonNeg}
+use Rattle.figures.proofs.Holds.{Holds, held-result, renamed, unsigned-fits}
+
+module _ {r v : ℤ} (ok : mag r < 2 ^ 63) (e : r ≡ v) where
+  holds : {k : ℕ} → natAbs v ≤ k → Holds w64 (ofZ w64 r) v k
+  holds h = renamed (held-result w64 r ok (rw e h)) e
+
+  -- a signed figure
+  pub signed-is : {k : ℕ} → natAbs v ≤ k → (toZ w64 (ofZ w64 r) ≡ v) × (natAbs (toZ w64 (ofZ w64 r)) ≤ k)
+  signed-is h = (holds h .is, rw (holds h .is) h)
+
+  -- a figure that is a size
+  module _ {low high : ℕ} (h : Size low v high) where
+    pub size-is : natAbs (toZ w64 (ofZ w64 r)) ≡ natAbs v
+    size-is = ap natAbs (holds (h .high) .is)
+
+    pub size-fits : T (ltb high (2 ^ 64)) → T (nonNeg (toZ w64 (ofZ w64 r))) × Fits w64 (natAbs (toZ w64 (ofZ w64 r)))
+    size-fits t = unsigned-fits (holds (h .high)) (size-nonNeg h) t
+
+    pub size-low : low ≤ natAbs (toZ w64 (ofZ w64 r))
+    size-low = rw size-is (h .low)
+
+    pub size-high : natAbs (toZ w64 (ofZ w64 r)) ≤ high
+    size-high = rw size-is (h .high)

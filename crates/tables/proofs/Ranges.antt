@@ -1,0 +1,141 @@
+-- The figures of a sheet that passes keep their ranges, at its rows and between them; and y0 rises from row to row. Assumes nothing.
+use mathlib.Core.Path.{_≡_, ap, _∙_}
+use mathlib.Core.Bool.{true}
+use mathlib.Core.List.{List}
+use Prim.Native.Nat.{ℕ, _+_, _*_, _-_, _<_, _≤_}
+use native.Mathlib.Nat.{add-zero}
+use native.Mathlib.Omega.{arith}
+use borrow.Author.Tests.{le-leb}
+use lib.Dec.{lit<, lit≤}
+use lib.IntN.{pos, natAbs, _+ℤ_}
+use lib.Signed.{leZ}
+use Rattle.figures.specs.Ranges.{mostH, mostV, mostA, mostB, mostC, mostP, mostM, mostD}
+use Rattle.figures.proofs.Sizes.{Size, times-most}
+use Rattle.rules.proofs.WhatPasses.{InRange, range-size, range-most}
+use Rattle.rows.specs.Rows.{figuresAt, rowAt}
+use Rattle.rows.proofs.PassingFigures.{minute-in-range, figures-in-range, figures-within, b-most}
+use Rattle.contents.specs.Layout.{lastKind, zone, latitude, longitude, northing, easting, scale, stepOf}
+use Rattle.contents.specs.Entries.{rowsOf, bodyOf}
+use Rattle.contents.proofs.Passing.{rows-some}
+use Rattle.bodies.specs.Check.{checkOf}
+use Rattle.bodies.proofs.Sound.{passes-sound, zone-rows, latitude-rows, longitude-rows, northing-rows, easting-rows, scale-rows}
+use Rattle.reading.specs.Rows.{RisesBy}
+use Rattle.reading.proofs.Values.{value-most, value-size, value-slope}
+use Rattle.tables.specs.Figures.{figureOf, figureAt, centralMeridian, falseEasting, firstLatitude, y0Of, y0At, hAt, vAt, aAt, bAt, cAt, pAt, mAt, dAt, kAt}
+use Rattle.tables.proofs.Parts.{contents-none}
+
+-- a body of one word in a row
+one-word : {i : ℕ} → 1 * i + 0 ≡ i
+one-word = omega arith
+
+module _ (s : List ℕ) (z : checkOf s .number ≡ 0) where
+  some : (kind : ℕ) → 1 ≤ kind → kind ≤ lastKind → 0 < rowsOf s kind
+  some kind l h = rows-some s (contents-none s z) kind l h
+
+  pub zone-some : 0 < rowsOf s zone
+  zone-some = some zone (omega arith) (omega arith)
+
+  pub latitude-some : 0 < rowsOf s latitude
+  latitude-some = some latitude (omega arith) (omega arith)
+
+  -- ---- zone
+  pub central-size : Size 6_000_000 (centralMeridian s) 642_000_000
+  unfolding centralMeridian
+  central-size = range-size 6_000_000 (figureOf s zone 0 0) 642_000_000 (zone-rows s (passes-sound s z) 0 zone-some .central-meridian)
+
+  pub easting-size : Size 0 (falseEasting s) 100_000_000
+  unfolding falseEasting
+  easting-size = range-size 0 (figureOf s zone 1 0) 100_000_000 (zone-rows s (passes-sound s z) 0 zone-some .false-easting)
+
+  -- ---- latitude
+  pub minute-size : Size 0 (figureOf s latitude 0 0) 5_400
+  minute-size = minute-in-range (bodyOf s latitude) (rowsOf s latitude) (latitude-rows s (passes-sound s z)) 0 latitude-some
+
+  pub first-most : natAbs (firstLatitude s) ≤ 324_000_000
+  unfolding firstLatitude
+  first-most = times-most (figureOf s latitude 0 0) (pos 60_000) {A = 5_400} {B = 60_000} (minute-size .high) (lit≤ tt)
+
+  in-range : (i : ℕ) → i < rowsOf s latitude → InRange (figuresAt (bodyOf s latitude) i)
+  in-range i h = figures-in-range (bodyOf s latitude) (rowsOf s latitude) (latitude-rows s (passes-sound s z)) i h
+
+  pub y0-size : (i : ℕ) → i < rowsOf s latitude → Size 0 (y0Of s i) 999_999_999
+  unfolding y0Of figuresAt
+  y0-size i h = in-range i h .y0
+
+  -- y0 rises by 600,000 to 615,000 from a row to the next
+  pub y0-rises : RisesBy (y0Of s) (rowsOf s latitude) 600_000 615_000
+  unfolding RisesBy y0Of figuresAt
+  y0-rises i h =
+      let this = in-range i (omega arith) .y0 in
+      let next = in-range (i + 1) h .y0 in
+      let up = figures-within (bodyOf s latitude) (rowsOf s latitude) (latitude-rows s (passes-sound s z)) i h .y0 in (
+        rw (this .is, next .is) (le-leb _ _ (up .0)),
+        rw (this .is, next .is) (le-leb _ _ (up .1)),
+      )
+
+  module _ (t : ℕ) (h : t ≤ (rowsOf s latitude - 1) * stepOf latitude) where
+    pub y0-between : Size 0 (y0At s t) 999_999_999
+    unfolding y0At figuresAt
+    y0-between =
+        value-size (figureOf s latitude 1) (rowsOf s latitude) (stepOf latitude) t (lit< tt) latitude-some h 0 999_999_999 (λ i l. in-range i l .y0)
+
+    pub h-between : Size 30_000_000 (figureAt s latitude 3 t) mostH
+    unfolding figuresAt
+    h-between =
+        value-size (figureOf s latitude 3) (rowsOf s latitude) (stepOf latitude) t (lit< tt) latitude-some h 30_000_000 mostH (λ i l. in-range i l .h)
+
+    pub v-between : Size 0 (figureAt s latitude 5 t) mostV
+    unfolding figuresAt
+    v-between =
+        value-size (figureOf s latitude 5) (rowsOf s latitude) (stepOf latitude) t (lit< tt) latitude-some h 0 mostV (λ i l. in-range i l .v)
+
+    pub a-most : natAbs (aAt s t) ≤ mostA
+    unfolding aAt figuresAt
+    a-most =
+        value-most (figureOf s latitude 7) (rowsOf s latitude) (stepOf latitude) t (lit< tt) latitude-some h mostA (λ i l. in-range i l .a)
+
+  -- ---- longitude
+  module _ (size : ℕ) (h : size ≤ (rowsOf s longitude - 1) * stepOf longitude) where
+    pub b-between : natAbs (bAt s size) ≤ mostB
+    unfolding bAt
+    b-between =
+        value-most (figureOf s longitude 0) (rowsOf s longitude) (stepOf longitude) size (lit< tt) (some longitude (omega arith) (omega arith)) h mostB
+        (λ i l. rw add-zero (range-most mostB _ (longitude-rows s (passes-sound s z) i l .b-range)))
+
+    -- "Next b's differ by at most 1,000", 10 a second, and row 0's is 0
+    pub b-slope : natAbs (bAt s size) ≤ size
+    unfolding bAt
+    b-slope =
+        value-slope (figureOf s longitude 0) (rowsOf s longitude) (stepOf longitude) size (lit< tt) (some longitude (omega arith) (omega arith)) h 1_000 (lit≤ tt)
+        (λ i l. rw add-zero (b-most (bodyOf s longitude) (rowsOf s longitude) (longitude-rows s (passes-sound s z)) i l))
+
+    pub c-between : natAbs (cAt s size) ≤ mostC
+    unfolding cAt
+    c-between =
+        value-most (figureOf s longitude 1) (rowsOf s longitude) (stepOf longitude) size (lit< tt) (some longitude (omega arith) (omega arith)) h mostC
+        (λ i l. range-most mostC (figureOf s longitude 1 i) (longitude-rows s (passes-sound s z) i l .c-range))
+
+  -- ---- northing
+  module _ (y : ℕ) (h : y ≤ (rowsOf s northing - 1) * stepOf northing) where
+    pub p-between : Size 0 (figureAt s northing 0 y) mostP
+    p-between =
+        value-size (figureOf s northing 0) (rowsOf s northing) (stepOf northing) y (lit< tt) (some northing (omega arith) (omega arith)) h 0 mostP
+        (λ i l. rw add-zero (range-size 0 _ mostP (northing-rows s (passes-sound s z) i l .p-range)))
+
+    pub m-between : Size 0 (figureAt s northing 1 y) mostM
+    m-between =
+        value-size (figureOf s northing 1) (rowsOf s northing) (stepOf northing) y (lit< tt) (some northing (omega arith) (omega arith)) h 0 mostM
+        (λ i l. range-size 0 (figureOf s northing 1 i) mostM (northing-rows s (passes-sound s z) i l .m-range))
+
+  -- ---- easting and scale
+  pub d-between : (size : ℕ) → size ≤ (rowsOf s easting - 1) * stepOf easting → natAbs (dAt s size) ≤ mostD
+  unfolding dAt
+  d-between size h =
+      value-most (λ i. figureOf s easting 0 i) (rowsOf s easting) (stepOf easting) size (lit< tt) (some easting (omega arith) (omega arith)) h mostD
+      (λ i l. rw one-word (range-most mostD _ (easting-rows s (passes-sound s z) i l .d-range)))
+
+  pub k-between : (size : ℕ) → size ≤ (rowsOf s scale - 1) * stepOf scale → Size 9_990_000 (kAt s size) 10_010_000
+  unfolding kAt
+  k-between size h =
+      value-size (λ i. figureOf s scale 0 i) (rowsOf s scale) (stepOf scale) size (lit< tt) (some scale (omega arith) (omega arith)) h 9_990_000 10_010_000
+      (λ i l. rw one-word (range-size 9_990_000 _ 10_010_000 (scale-rows s (passes-sound s z) i l .k-range)))

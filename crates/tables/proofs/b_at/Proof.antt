@@ -1,0 +1,18 @@
+-- `tables::b_at` meets its contract. Assumes nothing.
+use Rattle.tables.specs.Figures.{bAt}
+use Rattle.tables.proofs.Ranges.{b-between}
+use Rattle.tables.proofs.ByName.{longitude-place}
+use Rattle.tables.proofs.Answers.{signed-is}
+use borrow.Author.Needs.{needs}
+use Rattle.tables.proofs.b_at.Statement.{statement}
+use Rattle.tables.proofs.b_at.Tie as tie
+
+returns : tie.Need-returns
+unfolding bAt
+returns c = let p = c .before .before .pre in signed-is (c .figure-at .ok) (c .figure-at .ensures) (b-between _ (p .0) _ (p .2))
+
+figure-at-requires : tie.Need-figure-at-requires
+figure-at-requires c κs = search (longitude-place, needs)
+
+pub b-at-spec : {M : Type 1} → statement M
+b-at-spec = tie.close (tie.spec figure-at-requires returns)

@@ -1,0 +1,18 @@
+-- `tables::d_at` meets its contract. Assumes nothing.
+use Rattle.tables.specs.Figures.{dAt}
+use Rattle.tables.proofs.Ranges.{d-between}
+use Rattle.tables.proofs.ByName.{easting-place}
+use Rattle.tables.proofs.Answers.{signed-is}
+use borrow.Author.Needs.{needs}
+use Rattle.tables.proofs.d_at.Statement.{statement}
+use Rattle.tables.proofs.d_at.Tie as tie
+
+returns : tie.Need-returns
+unfolding dAt
+returns c = let p = c .before .before .pre in signed-is (c .figure-at .ok) (c .figure-at .ensures) (d-between _ (p .0) _ (p .2))
+
+figure-at-requires : tie.Need-figure-at-requires
+figure-at-requires c κs = search (easting-place, needs)
+
+pub d-at-spec : {M : Type 1} → statement M
+d-at-spec = tie.close (tie.spec figure-at-requires returns)

@@ -1,0 +1,18 @@
+-- `tables::false_easting` meets its contract. Assumes nothing.
+use Rattle.tables.specs.Figures.{falseEasting}
+use Rattle.tables.proofs.Ranges.{zone-some, easting-size}
+use Rattle.tables.proofs.ByName.{zone-place}
+use Rattle.tables.proofs.Answers.{signed-is}
+use borrow.Author.Needs.{needs}
+use Rattle.tables.proofs.false_easting.Statement.{statement}
+use Rattle.tables.proofs.false_easting.Tie as tie
+
+returns : tie.Need-returns
+unfolding falseEasting
+returns c = let p = c .before .before .pre in signed-is (c .figure-of .ok) (c .figure-of .ensures) (easting-size _ (p .0) .high)
+
+figure-of-requires : tie.Need-figure-of-requires
+figure-of-requires c κs = search (zone-place, zone-some, needs)
+
+pub false-easting-spec : {M : Type 1} → statement M
+false-easting-spec = tie.close (tie.spec figure-of-requires returns)

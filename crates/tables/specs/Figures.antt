@@ -1,0 +1,66 @@
+-- A sheet's figures by name, at its rows and between them. s is the sheet.
+-- A figure that its range keeps from being negative is a size, ℕ; a, b, c and d are ℤ. Columns count from 0, in the order of the table of kinds.
+use mathlib.Core.List.{List}
+use Prim.Native.Nat.{ℕ}
+use lib.IntN.{ℤ, pos, natAbs, _*ℤ_}
+use Rattle.contents.specs.Layout.{zone, latitude, longitude, northing, easting, scale, widthOf, stepOf}
+use Rattle.contents.specs.Entries.{bodyOf}
+use Rattle.reading.specs.Tables.{column, valueAt}
+
+-- The figure in row i of a column of the kind.
+abbrev pub figureOf : List ℕ → ℕ → ℕ → ℕ → ℤ
+figureOf s kind number i = column (bodyOf s kind) (widthOf kind) number i
+
+-- The figure of a column of the kind at an offset from row 0, by "Rounding and reading between rows" with the kind's step.
+abbrev pub figureAt : List ℕ → ℕ → ℕ → ℕ → ℤ
+figureAt s kind number offset = valueAt (column (bodyOf s kind) (widthOf kind) number) (stepOf kind) offset
+
+-- ---- zone: "central meridian (0.001″); false easting C (0.01 ft)"
+unfoldable pub centralMeridian : List ℕ → ℤ
+centralMeridian s = figureOf s zone 0 0
+
+unfoldable pub falseEasting : List ℕ → ℤ
+falseEasting s = figureOf s zone 1 0
+
+-- ---- latitude: "minute; y0 (0.01 ft); Δy; H (0.000001); ΔH; V (0.000001); ΔV; a (0.001)"
+-- The latitude of row 0, in 0.001″, from its minute.
+unfoldable pub firstLatitude : List ℕ → ℤ
+firstLatitude s = figureOf s latitude 0 0 *ℤ pos (stepOf latitude)
+
+-- y0 in row i.
+unfoldable pub y0Of : List ℕ → ℕ → ℤ
+y0Of s i = figureOf s latitude 1 i
+
+-- At t, in 0.001″ of latitude from row 0: "From latitude take y0, H, V, a".
+unfoldable pub y0At : List ℕ → ℕ → ℤ
+y0At s t = figureAt s latitude 1 t
+
+unfoldable pub hAt : List ℕ → ℕ → ℕ
+hAt s t = natAbs (figureAt s latitude 3 t)
+
+unfoldable pub vAt : List ℕ → ℕ → ℕ
+vAt s t = natAbs (figureAt s latitude 5 t)
+
+unfoldable pub aAt : List ℕ → ℕ → ℤ
+aAt s t = figureAt s latitude 7 t
+
+-- ---- longitude: "b (0.001); c (0.001)", at a size of L in 0.001″
+unfoldable pub bAt : List ℕ → ℕ → ℤ
+bAt s size = figureAt s longitude 0 size
+
+unfoldable pub cAt : List ℕ → ℕ → ℤ
+cAt s size = figureAt s longitude 1 size
+
+-- ---- northing: "P (0.00001); M (10⁻⁷)", at y in 0.01 ft
+unfoldable pub pAt : List ℕ → ℕ → ℕ
+pAt s y = natAbs (figureAt s northing 0 y)
+
+unfoldable pub mAt : List ℕ → ℕ → ℕ
+mAt s y = natAbs (figureAt s northing 1 y)
+
+-- ---- easting: "d (0.01 ft)", and scale: "k (10⁻⁷)", at a size of x′ in 0.01 ft
+unfoldable pub dAt : List ℕ → ℕ → ℤ
+dAt s size = figureAt s easting 0 size
+
+unfoldable pub kAt : List ℕ → ℕ → ℤ
+kAt s size = figureAt s scale 0 size

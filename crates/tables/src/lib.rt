@@ -1,0 +1,161 @@
+// The figures of a sheet that passes the check, by name: at its rows and between them. The sheet goes with its places, which are worked once.
+use contents::Place;
+use contents::Places;
+ghost use mathlib.Core.Path.{_≡_};
+ghost use mathlib.Core.Bool.{true};
+ghost use Prim.Native.Nat.{_+_, _-_, _*_, _^_, _<_, _≤_};
+ghost use lib.IntN.{pos, natAbs};
+ghost use lib.Signed.{leZ};
+ghost use Rattle.figures.specs.Ranges.{mostH, mostV, mostA, mostB, mostC, mostP, mostM, mostD, mostStep};
+ghost use Rattle.contents.specs.Layout.{lastKind, latitude, longitude, northing, easting, scale, widthOf, stepOf};
+ghost use Rattle.contents.specs.Entries.{rowsOf, placeOf, placesOf};
+ghost use Rattle.bodies.specs.Check.{checkOf};
+ghost use Rattle.reading.specs.Rows.{lastNotAbove};
+ghost use Rattle.tables.specs.Figures.{figureOf, figureAt, centralMeridian, falseEasting, firstLatitude, y0Of, y0At, hAt, vAt, aAt, bAt, cAt, pAt, mAt, dAt, kAt};
+
+// The figure in row i of a column of the kind, whose body is lent on as the part of the sheet that holds it.
+fn figure_of(s: &[u8], place: Place, kind: usize, number: usize, i: usize) -> i64
+    requires { ⌜ (checkOf (now s) .number ≡ 0) × (place ≡ placeOf (now s) kind) × (1 ≤ kind) × (kind ≤ lastKind) × (number < widthOf kind) × (i < rowsOf (now s) kind) ⌝ }
+    ensures { λ r. ⌜ r ≡ figureOf (now (s .entry)) kind number i ⌝ }
+{
+    let w = contents::width_of(kind);
+    let a = 4 * place.start;
+    let z = a + 4 * (place.rows * w);
+    let b = &s[a..z];
+    words::word(b, w * i + number) as i64
+}
+
+// The figure of a column of the kind at an offset from row 0.
+fn figure_at(s: &[u8], place: Place, kind: usize, number: usize, offset: u64) -> i64
+    requires { ⌜ (checkOf (now s) .number ≡ 0) × (place ≡ placeOf (now s) kind) × (1 ≤ kind) × (kind ≤ lastKind) × (0 < stepOf kind) × (number < widthOf kind) × (offset ≤ (rowsOf (now s) kind - 1) * stepOf kind) ⌝ }
+    ensures { λ r. ⌜ r ≡ figureAt (now (s .entry)) kind number offset ⌝ }
+{
+    let w = contents::width_of(kind);
+    let a = 4 * place.start;
+    let z = a + 4 * (place.rows * w);
+    reading::value_at(&s[a..z], w, number, contents::step_of(kind), offset)
+}
+
+// The central meridian, in 0.001″.
+pub fn central_meridian(s: &[u8], p: Places) -> i64
+    requires { ⌜ (checkOf (now s) .number ≡ 0) × (p ≡ placesOf (now s)) ⌝ }
+    ensures { λ r. ⌜ (r ≡ centralMeridian (now (s .entry))) × (natAbs r ≤ 642_000_000) ⌝ }
+{
+    figure_of(s, p.zone, contents::ZONE, 0, 0)
+}
+
+// The false easting C, in 0.01 ft.
+pub fn false_easting(s: &[u8], p: Places) -> i64
+    requires { ⌜ (checkOf (now s) .number ≡ 0) × (p ≡ placesOf (now s)) ⌝ }
+    ensures { λ r. ⌜ (r ≡ falseEasting (now (s .entry))) × (natAbs r ≤ 100_000_000) ⌝ }
+{
+    figure_of(s, p.zone, contents::ZONE, 1, 0)
+}
+
+// The latitude of row 0, in 0.001″.
+pub fn first_latitude(s: &[u8], p: Places) -> i64
+    requires { ⌜ (checkOf (now s) .number ≡ 0) × (p ≡ placesOf (now s)) ⌝ }
+    ensures { λ r. ⌜ (r ≡ firstLatitude (now (s .entry))) × (natAbs r ≤ 324_000_000) ⌝ }
+{
+    figure_of(s, p.latitude, contents::LATITUDE, 0, 0) * 60_000
+}
+
+// y0 in latitude row i, in 0.01 ft.
+pub fn y0_of(s: &[u8], p: Places, i: usize) -> i64
+    requires { ⌜ (checkOf (now s) .number ≡ 0) × (p ≡ placesOf (now s)) × (i < rowsOf (now s) latitude) ⌝ }
+    ensures { λ r. ⌜ (r ≡ y0Of (now (s .entry)) i) × (natAbs r ≤ 999_999_999) ⌝ }
+{
+    figure_of(s, p.latitude, contents::LATITUDE, 1, i)
+}
+
+// The last latitude row with y0 not above z, which is not below the first. `place` is the latitude body's.
+pub fn row_of(s: &[u8], place: Place, z: i64) -> usize
+    requires { ⌜ (checkOf (now s) .number ≡ 0) × (place ≡ placeOf (now s) latitude) × (leZ (y0Of (now s) 0) z ≡ true) × (natAbs z < 2 ^ 62) ⌝ }
+    ensures { λ r. ⌜ (r ≡ lastNotAbove (y0Of (now (s .entry))) (rowsOf (now (s .entry)) latitude) z) × (r < rowsOf (now (s .entry)) latitude) ⌝ }
+{
+    let n = place.rows;
+    let w = contents::width_of(contents::LATITUDE);
+    let a = 4 * place.start;
+    let end = a + 4 * (n * w);
+    reading::row_of(&s[a..end], w, 1, n, 600_000, 615_000, z)
+}
+
+// y0 at t from row 0, in 0.01 ft.
+pub fn y0_at(s: &[u8], p: Places, t: u64) -> i64
+    requires { ⌜ (checkOf (now s) .number ≡ 0) × (p ≡ placesOf (now s)) × (t ≤ (rowsOf (now s) latitude - 1) * stepOf latitude) ⌝ }
+    ensures { λ r. ⌜ (r ≡ y0At (now (s .entry)) t) × (natAbs r ≤ 999_999_999) ⌝ }
+{
+    figure_at(s, p.latitude, contents::LATITUDE, 1, t)
+}
+
+// H at t from row 0, in 0.000001.
+pub fn h_at(s: &[u8], p: Places, t: u64) -> u64
+    requires { ⌜ (checkOf (now s) .number ≡ 0) × (p ≡ placesOf (now s)) × (t ≤ (rowsOf (now s) latitude - 1) * stepOf latitude) ⌝ }
+    ensures { λ r. ⌜ (r ≡ hAt (now (s .entry)) t) × (30_000_000 ≤ r) × (r ≤ mostH) ⌝ }
+{
+    figure_at(s, p.latitude, contents::LATITUDE, 3, t) as u64
+}
+
+// V at t from row 0, in 0.000001.
+pub fn v_at(s: &[u8], p: Places, t: u64) -> u64
+    requires { ⌜ (checkOf (now s) .number ≡ 0) × (p ≡ placesOf (now s)) × (t ≤ (rowsOf (now s) latitude - 1) * stepOf latitude) ⌝ }
+    ensures { λ r. ⌜ (r ≡ vAt (now (s .entry)) t) × (r ≤ mostV) ⌝ }
+{
+    figure_at(s, p.latitude, contents::LATITUDE, 5, t) as u64
+}
+
+// a at t from row 0, in 0.001.
+pub fn a_at(s: &[u8], p: Places, t: u64) -> i64
+    requires { ⌜ (checkOf (now s) .number ≡ 0) × (p ≡ placesOf (now s)) × (t ≤ (rowsOf (now s) latitude - 1) * stepOf latitude) ⌝ }
+    ensures { λ r. ⌜ (r ≡ aAt (now (s .entry)) t) × (natAbs r ≤ mostA) ⌝ }
+{
+    figure_at(s, p.latitude, contents::LATITUDE, 7, t)
+}
+
+// b at a size of L, in 0.001.
+pub fn b_at(s: &[u8], p: Places, size: u64) -> i64
+    requires { ⌜ (checkOf (now s) .number ≡ 0) × (p ≡ placesOf (now s)) × (size ≤ (rowsOf (now s) longitude - 1) * stepOf longitude) ⌝ }
+    ensures { λ r. ⌜ (r ≡ bAt (now (s .entry)) size) × (natAbs r ≤ mostB) ⌝ }
+{
+    figure_at(s, p.longitude, contents::LONGITUDE, 0, size)
+}
+
+// c at a size of L, in 0.001 ft.
+pub fn c_at(s: &[u8], p: Places, size: u64) -> i64
+    requires { ⌜ (checkOf (now s) .number ≡ 0) × (p ≡ placesOf (now s)) × (size ≤ (rowsOf (now s) longitude - 1) * stepOf longitude) ⌝ }
+    ensures { λ r. ⌜ (r ≡ cAt (now (s .entry)) size) × (natAbs r ≤ mostC) ⌝ }
+{
+    figure_at(s, p.longitude, contents::LONGITUDE, 1, size)
+}
+
+// P at y, in 0.00001.
+pub fn p_at(s: &[u8], p: Places, y: u64) -> u64
+    requires { ⌜ (checkOf (now s) .number ≡ 0) × (p ≡ placesOf (now s)) × (y ≤ (rowsOf (now s) northing - 1) * stepOf northing) ⌝ }
+    ensures { λ r. ⌜ (r ≡ pAt (now (s .entry)) y) × (r ≤ mostP) ⌝ }
+{
+    figure_at(s, p.northing, contents::NORTHING, 0, y) as u64
+}
+
+// M at y, in 10⁻⁷.
+pub fn m_at(s: &[u8], p: Places, y: u64) -> u64
+    requires { ⌜ (checkOf (now s) .number ≡ 0) × (p ≡ placesOf (now s)) × (y ≤ (rowsOf (now s) northing - 1) * stepOf northing) ⌝ }
+    ensures { λ r. ⌜ (r ≡ mAt (now (s .entry)) y) × (r ≤ mostM) ⌝ }
+{
+    figure_at(s, p.northing, contents::NORTHING, 1, y) as u64
+}
+
+// d at a size of x′, in 0.01 ft.
+pub fn d_at(s: &[u8], p: Places, size: u64) -> i64
+    requires { ⌜ (checkOf (now s) .number ≡ 0) × (p ≡ placesOf (now s)) × (size ≤ (rowsOf (now s) easting - 1) * stepOf easting) ⌝ }
+    ensures { λ r. ⌜ (r ≡ dAt (now (s .entry)) size) × (natAbs r ≤ mostD) ⌝ }
+{
+    figure_at(s, p.easting, contents::EASTING, 0, size)
+}
+
+// k at a size of x′, in 10⁻⁷.
+pub fn k_at(s: &[u8], p: Places, size: u64) -> i64
+    requires { ⌜ (checkOf (now s) .number ≡ 0) × (p ≡ placesOf (now s)) × (size ≤ (rowsOf (now s) scale - 1) * stepOf scale) ⌝ }
+    ensures { λ r. ⌜ (r ≡ kAt (now (s .entry)) size) × (natAbs r ≤ 10_010_000) ⌝ }
+{
+    figure_at(s, p.scale, contents::SCALE, 0, size)
+}
