@@ -1,1 +1,3 @@
--- Laws of `extent`.
+-- Laws of where a point stands in a passing sheet's tables. Other crates cite them.
+pub mod Counts
+pub mod Points

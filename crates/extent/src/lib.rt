@@ -1,13 +1,22 @@
 // How far a sheet that passes the check reaches: where a point stands in its tables, and whether that is within their rows, as numbers 10 to 14 ask.
+use contents::Place;
 use contents::Places;
 ghost use mathlib.Core.Path.{_≡_};
-ghost use mathlib.Core.Bool.{true};
-ghost use Prim.Native.Nat.{_-_, _*_, _≤_};
-ghost use lib.IntN.{pos, natAbs};
-ghost use Rattle.contents.specs.Layout.{latitude, stepOf};
-ghost use Rattle.contents.specs.Entries.{rowsOf, placesOf};
+ghost use Prim.Native.Nat.{_≤_};
+ghost use lib.IntN.{natAbs};
+ghost use Rattle.contents.specs.Layout.{lastKind, stepOf};
+ghost use Rattle.contents.specs.Entries.{rowsOf, placeOf, placesOf};
 ghost use Rattle.bodies.specs.Check.{checkOf};
+ghost use Rattle.reading.specs.Tables.{withinRows};
 ghost use Rattle.extent.specs.Extent.{fromFirst, latitudeKnown, lOf, sizeKnown, longitudeKnown, xPrime, eastingKnown, scaleKnown, northingKnown, reducedKnown};
+
+// Whether z lies from row 0 of the kind's body to its last row.
+fn within(s: &[u8], place: Place, kind: usize, z: i64) -> bool
+    requires { ⌜ (checkOf (now s) .number ≡ 0) × (place ≡ placeOf (now s) kind) × (1 ≤ kind) × (kind ≤ lastKind) ⌝ }
+    ensures { λ r. ⌜ r ≡ withinRows (rowsOf (now (s .entry)) kind) (stepOf kind) z ⌝ }
+{
+    reading::within_rows(place.rows, contents::step_of(kind), z)
+}
 
 // The latitude's distance from row 0, in 0.001″.
 pub fn from_first(s: &[u8], p: Places, latitude: i32) -> i64
@@ -22,9 +31,10 @@ pub fn latitude_known(s: &[u8], p: Places, latitude: i32) -> bool
     requires { ⌜ (checkOf (now s) .number ≡ 0) × (p ≡ placesOf (now s)) ⌝ }
     ensures { λ r. ⌜ r ≡ latitudeKnown (now (s .entry)) latitude ⌝ }
 {
-    reading::within_rows(
-        p.latitude.rows,
-        contents::step_of(contents::LATITUDE),
+    within(
+        s,
+        p.latitude,
+        contents::LATITUDE,
         from_first(s, p, latitude),
     )
 }
@@ -42,11 +52,7 @@ pub fn size_known(s: &[u8], p: Places, size: i64) -> bool
     requires { ⌜ (checkOf (now s) .number ≡ 0) × (p ≡ placesOf (now s)) ⌝ }
     ensures { λ r. ⌜ r ≡ sizeKnown (now (s .entry)) size ⌝ }
 {
-    reading::within_rows(
-        p.longitude.rows,
-        contents::step_of(contents::LONGITUDE),
-        size,
-    )
+    within(s, p.longitude, contents::LONGITUDE, size)
 }
 
 // Whether the longitude is one that there is, and its L not above the last kind 3 row.
@@ -71,11 +77,7 @@ pub fn easting_known(s: &[u8], p: Places, xp: i64) -> bool
     requires { ⌜ (checkOf (now s) .number ≡ 0) × (p ≡ placesOf (now s)) × (natAbs xp ≤ 2_247_483_648) ⌝ }
     ensures { λ r. ⌜ r ≡ eastingKnown (now (s .entry)) xp ⌝ }
 {
-    reading::within_rows(
-        p.easting.rows,
-        contents::step_of(contents::EASTING),
-        figures::size(xp) as i64,
-    )
+    within(s, p.easting, contents::EASTING, figures::size(xp) as i64)
 }
 
 // Whether x′ in size is not above the last kind 6 row.
@@ -83,11 +85,7 @@ pub fn scale_known(s: &[u8], p: Places, xp: i64) -> bool
     requires { ⌜ (checkOf (now s) .number ≡ 0) × (p ≡ placesOf (now s)) × (natAbs xp ≤ 2_247_483_648) ⌝ }
     ensures { λ r. ⌜ r ≡ scaleKnown (now (s .entry)) xp ⌝ }
 {
-    reading::within_rows(
-        p.scale.rows,
-        contents::step_of(contents::SCALE),
-        figures::size(xp) as i64,
-    )
+    within(s, p.scale, contents::SCALE, figures::size(xp) as i64)
 }
 
 // Whether y lies from 0 to the last kind 4 row.
@@ -95,11 +93,7 @@ pub fn northing_known(s: &[u8], p: Places, y: i32) -> bool
     requires { ⌜ (checkOf (now s) .number ≡ 0) × (p ≡ placesOf (now s)) ⌝ }
     ensures { λ r. ⌜ r ≡ northingKnown (now (s .entry)) y ⌝ }
 {
-    reading::within_rows(
-        p.northing.rows,
-        contents::step_of(contents::NORTHING),
-        y as i64,
-    )
+    within(s, p.northing, contents::NORTHING, y as i64)
 }
 
 // Whether the reduced northing lies from the first y0 to the last.

@@ -1,5 +1,5 @@
 -- What a named figure's function shows of its answer: r is the number that was read, v the figure. Assumes nothing.
-use mathlib.Core.Path.{_≡_, ap, _∙_}
+use mathlib.Core.Path.{_≡_, ap}
 use Prim.Native.Nat.{ℕ, _^_, _<_, _≤_}
 use lib.Dec.{T, ltb}
 use lib.IntN.{ℤ, natAbs}

@@ -1,8 +1,7 @@
 -- Each kind's place, by its name among the places. Assumes nothing.
-use mathlib.Core.Path.{_≡_, ap, _∙_}
+use mathlib.Core.Path.{_≡_, ap}
 use mathlib.Core.List.{List}
 use Prim.Native.Nat.{ℕ}
-use Rattle.contents.specs.declared.Place.{Place}
 use Rattle.contents.specs.declared.Places.{Places}
 use Rattle.contents.specs.Layout.{zone, latitude, longitude, northing, easting, scale}
 use Rattle.contents.specs.Entries.{placeOf, placesOf}

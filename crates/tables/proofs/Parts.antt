@@ -24,7 +24,7 @@ use Rattle.contents.specs.Contents.{numberOf, contentsOf}
 use Rattle.contents.proofs.Passing.{passed, rows-some}
 use Rattle.bodies.specs.Check.{checkOf}
 use Rattle.bodies.proofs.Sound.{passes-sound}
-use Rattle.bodies.proofs.Parts.{part-within, part-rows}
+use Rattle.bodies.proofs.Parts.{part-rows}
 use Rattle.reading.specs.Tables.{column, valueAt}
 use Rattle.reading.proofs.Within.{row-within, value-within}
 use Rattle.tables.specs.Figures.{figureOf, figureAt}

@@ -1,18 +1,16 @@
 -- The figures of a sheet that passes keep their ranges, at its rows and between them; and y0 rises from row to row. Assumes nothing.
-use mathlib.Core.Path.{_≡_, ap, _∙_}
-use mathlib.Core.Bool.{true}
+use mathlib.Core.Path.{_≡_}
 use mathlib.Core.List.{List}
 use Prim.Native.Nat.{ℕ, _+_, _*_, _-_, _<_, _≤_}
 use native.Mathlib.Nat.{add-zero}
 use native.Mathlib.Omega.{arith}
 use borrow.Author.Tests.{le-leb}
 use lib.Dec.{lit<, lit≤}
-use lib.IntN.{pos, natAbs, _+ℤ_}
-use lib.Signed.{leZ}
+use lib.IntN.{pos, natAbs}
 use Rattle.figures.specs.Ranges.{mostH, mostV, mostA, mostB, mostC, mostP, mostM, mostD}
 use Rattle.figures.proofs.Sizes.{Size, times-most}
 use Rattle.rules.proofs.WhatPasses.{InRange, range-size, range-most}
-use Rattle.rows.specs.Rows.{figuresAt, rowAt}
+use Rattle.rows.specs.Rows.{figuresAt}
 use Rattle.rows.proofs.PassingFigures.{minute-in-range, figures-in-range, figures-within, b-most}
 use Rattle.contents.specs.Layout.{lastKind, zone, latitude, longitude, northing, easting, scale, stepOf}
 use Rattle.contents.specs.Entries.{rowsOf, bodyOf}
@@ -21,7 +19,7 @@ use Rattle.bodies.specs.Check.{checkOf}
 use Rattle.bodies.proofs.Sound.{passes-sound, zone-rows, latitude-rows, longitude-rows, northing-rows, easting-rows, scale-rows}
 use Rattle.reading.specs.Rows.{RisesBy}
 use Rattle.reading.proofs.Values.{value-most, value-size, value-slope}
-use Rattle.tables.specs.Figures.{figureOf, figureAt, centralMeridian, falseEasting, firstLatitude, y0Of, y0At, hAt, vAt, aAt, bAt, cAt, pAt, mAt, dAt, kAt}
+use Rattle.tables.specs.Figures.{figureOf, figureAt, centralMeridian, falseEasting, firstLatitude, y0Of, y0At, aAt, bAt, cAt, dAt, kAt}
 use Rattle.tables.proofs.Parts.{contents-none}
 
 -- a body of one word in a row

@@ -1,33 +1,36 @@
+-- `extent::scale_known` meets its contract. Assumes nothing.
+use mathlib.Core.Path.{_≡_}
+use lib.Dec.{lit≤}
+use native.Mathlib.Nat.{le-trans}
+use mir.Syntax.{w64}
+use mir.Val.{toZ, ofZ}
+use Rattle.reading.specs.Tables.{withinRows}
+use Rattle.extent.specs.Extent.{scaleKnown}
+use Rattle.tables.proofs.ByName.{scale-place}
+use Rattle.extent.proofs.Points.{size-small, size-signed, size-tested}
 use borrow.Author.Needs.{needs}
 use Rattle.extent.proofs.scale_known.Statement.{statement}
 use Rattle.extent.proofs.scale_known.Tie as tie
-use Rattle.extent.proofs.scale_known.Reads as reads
-use Rattle.extent.proofs.scale_known.Lts as lts
-use Rattle.contents.proofs.step_of.Reads as step-of-reads
-use Rattle.figures.proofs.size.Reads as size-reads
-use Rattle.reading.proofs.within_rows.Reads as within-rows-reads
 
--- src/lib.rt:88:9
-step-of-requires : tie.Need-step-of-requires
-step-of-requires c κs = search needs
-
--- src/lib.rt:89:9
-size-requires : tie.Need-size-requires
-size-requires c κs = ?
-
--- src/lib.rt:89:9
-cast-within-rows : tie.Need-cast-within-rows
-cast-within-rows c = ?
-
--- src/lib.rt:86:5
-within-rows-requires : tie.Need-within-rows-requires
-within-rows-requires c κs = ?
-
--- src/lib.rt:82:1
 returns : tie.Need-returns
-returns c = ?
+unfolding scaleKnown
+returns c =
+    let start = c .before .before .before in
+    let z : toZ w64 (ofZ w64 (start .args .xp)) ≡ start .args .xp = search needs in
+    size-tested z (le-trans (start .pre .2) (lit≤ tt)) (c .before .size .ensures) (withinRows _ _) (c .within .ensures)
+
+size-requires : tie.Need-size-requires
+size-requires c κs =
+    let z : toZ w64 (ofZ w64 (c .before .args .xp)) ≡ c .before .args .xp = search needs in
+    size-small z (le-trans (c .before .pre .2) (lit≤ tt))
+
+cast-within : tie.Need-cast-within
+cast-within c =
+    let z : toZ w64 (ofZ w64 (c .before .before .args .xp)) ≡ c .before .before .args .xp = search needs in
+    size-signed z (le-trans (c .before .before .pre .2) (lit≤ tt)) (c .size .ensures)
+
+within-requires : tie.Need-within-requires
+within-requires c κs = search (scale-place, needs)
 
 pub scale-known-spec : {M : Type 1} → statement M
-scale-known-spec =
-    tie.close
-    (tie.spec step-of-requires size-requires cast-within-rows within-rows-requires returns)
+scale-known-spec = tie.close (tie.spec size-requires cast-within within-requires returns)

@@ -1,25 +1,22 @@
+-- `extent::x_prime` meets its contract. Assumes nothing.
+use Rattle.extent.specs.Extent.{xPrime}
+use Rattle.extent.proofs.Points.{wide-fits, point-less, point-less-fits, answered}
 use borrow.Author.Needs.{needs}
 use Rattle.extent.proofs.x_prime.Statement.{statement}
 use Rattle.extent.proofs.x_prime.Tie as tie
-use Rattle.extent.proofs.x_prime.Reads as reads
-use Rattle.extent.proofs.x_prime.Lts as lts
-use Rattle.tables.proofs.false_easting.Reads as false-easting-reads
 
--- src/lib.rt:66:6
+returns : tie.Need-returns
+unfolding xPrime
+returns c = answered (point-less (c .before .before .fits .x) (c .false-easting .ok) (c .false-easting .ensures) tt)
+
 cast-result : tie.Need-cast-result
-cast-result c = ?
+cast-result c = wide-fits (c .before .fits .x)
 
--- src/lib.rt:66:18
 false-easting-requires : tie.Need-false-easting-requires
 false-easting-requires c κs = search needs
 
--- src/lib.rt:66:5
 sub-result : tie.Need-sub-result
-sub-result c = ?
-
--- src/lib.rt:62:1
-returns : tie.Need-returns
-returns c = ?
+sub-result c = point-less-fits (c .before .before .fits .x) (c .false-easting .ok) (c .false-easting .ensures) tt
 
 pub x-prime-spec : {M : Type 1} → statement M
 x-prime-spec = tie.close (tie.spec cast-result false-easting-requires sub-result returns)

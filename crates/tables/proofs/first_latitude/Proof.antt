@@ -3,7 +3,7 @@ use mathlib.Core.Path.{ap, _∙_}
 use mir.Syntax.{w64}
 use mir.Val.{ofZ}
 use lib.IntN.{ℤ, pos, _*ℤ_}
-use Rattle.figures.proofs.Holds.{Holds, held-result, held-literal, product, product-fits, renamed}
+use Rattle.figures.proofs.Holds.{Holds, held-result, held-literal, product, product-fits}
 use Rattle.tables.specs.Figures.{firstLatitude}
 use Rattle.tables.proofs.Ranges.{latitude-some, minute-size, first-most}
 use Rattle.tables.proofs.ByName.{latitude-place}

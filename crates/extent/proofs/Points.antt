@@ -1,0 +1,60 @@
+-- A point's numbers as the code has them: sizes and differences that pass 32 bits and are far from 64. Assumes nothing.
+use mathlib.Core.Path.{_≡_, ap, _∙_}
+use mathlib.Core.Bool.{Bool, _&&_}
+use Prim.Native.Nat.{ℕ, _+_, _-_, _^_, _<_, _≤_}
+use native.Mathlib.Nat.{lt-of-le-of-lt}
+use native.Mathlib.Omega.{arith}
+use lib.Dec.{T, ltb, lit<}
+use lib.IntN.{ℤ, pos, natAbs, _-ℤ_}
+use lib.Signed.{mag, leZ}
+use mir.Syntax.{w32, w64}
+use mir.Val.{SFits, toZ, ofZ}
+use Rattle.figures.proofs.Holds.{Holds, held, held-result, held-size, size-i32, cast, cast-fits, difference, difference-fits, renamed}
+
+-- a point's number, widened
+pub wide : {z : ℤ} → SFits w32 z → Holds w64 (ofZ w64 (toZ w32 (ofZ w32 z))) z 2_147_483_648
+wide h = cast (held h (size-i32 h)) tt
+
+pub wide-fits : {z : ℤ} → SFits w32 z → SFits w64 (toZ w32 (ofZ w32 z))
+wide-fits h = cast-fits (held h (size-i32 h)) tt
+
+-- ---- a point's number z and a figure v, which was read as r
+module _ {z r v : ℤ} {k : ℕ} (h : SFits w32 z) (ok : mag r < 2 ^ 63) (e : (r ≡ v) × (natAbs r ≤ k)) (t : T (ltb (2_147_483_648 + k) (2 ^ 63))) where
+  figure : Holds w64 (ofZ w64 r) v k
+  figure = renamed (held-result w64 r ok (e .1)) (e .0)
+
+  pub point-less-fits : SFits w64 (toZ w64 (ofZ w64 (toZ w32 (ofZ w32 z))) -ℤ toZ w64 (ofZ w64 r))
+  point-less-fits = difference-fits (wide h) figure t
+
+  pub point-less : Holds w64 (ofZ w64 (toZ w64 (ofZ w64 (toZ w32 (ofZ w32 z))) -ℤ toZ w64 (ofZ w64 r))) (z -ℤ v) (2_147_483_648 + k)
+  point-less = difference (wide h) figure t
+
+module _ {z r v : ℤ} {k : ℕ} (h : SFits w32 z) (ok : mag r < 2 ^ 63) (e : (r ≡ v) × (natAbs r ≤ k)) (t : T (ltb (k + 2_147_483_648) (2 ^ 63))) where
+  pub less-point-fits : SFits w64 (toZ w64 (ofZ w64 r) -ℤ toZ w64 (ofZ w64 (toZ w32 (ofZ w32 z))))
+  less-point-fits = difference-fits (renamed (held-result w64 r ok (e .1)) (e .0)) (wide h) t
+
+  pub less-point : Holds w64 (ofZ w64 (toZ w64 (ofZ w64 r) -ℤ toZ w64 (ofZ w64 (toZ w32 (ofZ w32 z))))) (v -ℤ z) (k + 2_147_483_648)
+  less-point = difference (renamed (held-result w64 r ok (e .1)) (e .0)) (wide h) t
+
+-- a number as it is answered, with its bound
+pub answered : {n B : ℕ} {z : ℤ} → Holds w64 n z B → (toZ w64 n ≡ z) × (natAbs (toZ w64 n) ≤ B)
+answered h = (h .is, rw (h .is) (h .size))
+
+-- ---- y has the bits of z, and n is its size
+module _ {y z : ℤ} (same : y ≡ z) (small : natAbs z ≤ 4_000_000_000) where
+  pub size-small : natAbs y < 2 ^ 63
+  size-small = rw same (lt-of-le-of-lt small (lit< tt))
+
+  module _ {n : ℕ} (e : n ≡ natAbs y) where
+    pub size-signed : SFits w64 (pos n)
+    size-signed = record { sfits = omega (arith, small, e, ap natAbs same) }
+
+    -- a test of it, as a signed number
+    pub size-tested : (test : ℤ → Bool) {r : Bool} → r ≡ test (toZ w64 n) → r ≡ test (pos (natAbs z))
+    size-tested test a =
+        let bound : n ≤ 4_000_000_000 = omega (arith, small, e, ap natAbs same) in
+        a ∙ ap test (held-size w64 bound tt .is ∙ ap pos (e ∙ ap natAbs same))
+
+-- ---- the last of m rows, where there are n
+pub from-first-to-last : (f : ℕ → ℤ) (z : ℤ) {n m : ℕ} {u v : ℤ} → u ≡ f 0 → v ≡ f (m - 1) → m ≡ n → (leZ u z && leZ z v) ≡ (leZ (f 0) z && leZ z (f (n - 1)))
+from-first-to-last f z p q e = rw (p, q, e)
