@@ -1,1 +1,3 @@
--- Laws of `convert`.
+-- Laws of the conversions on a sheet that passes. Other crates cite them.
+pub mod Bits
+pub mod Eastings

@@ -11,20 +11,25 @@ use Rattle.extent.specs.Extent.{fromFirst, latitudeKnown, lOf, longitudeKnown}
 use Rattle.convert.specs.declared.Plane.{Plane}
 use Rattle.convert.specs.Answers.{plane, noPlane, afterCheck}
 
--- "The size of x′ is the nearest hundredth of H·s + a·b, with the sign of L; x = x′ + C." t is the latitude's distance from row 0.
+-- "From latitude take y0, H, V, a; from s take b, c." t is the latitude's distance from row 0, and size is s, the size of L.
+-- "The size of x′ is the nearest hundredth of H·s + a·b"
+unfoldable pub xSize : List ℕ → ℕ → ℕ → ℤ
+xSize s t size = sizeOfX (hAt s t) size (aAt s t) (bAt s size)
+
+-- "with the sign of L; x = x′ + C."
 unfoldable pub xOf : List ℕ → ℕ → ℤ → ℤ
-xOf s t l = withSign l (sizeOfX (hAt s t) (natAbs l) (aAt s t) (bAt s (natAbs l))) +ℤ falseEasting s
+xOf s t l = withSign l (xSize s t (natAbs l)) +ℤ falseEasting s
 
 -- "y = y0 + nearest hundredth of (V·q + c)."
-unfoldable pub yOf : List ℕ → ℕ → ℤ → ℤ
-yOf s t l = y0At s t +ℤ rise (vAt s t) (qOf (natAbs l)) (cAt s (natAbs l))
+unfoldable pub yOf : List ℕ → ℕ → ℕ → ℤ
+yOf s t size = y0At s t +ℤ rise (vAt s t) (qOf size) (cAt s size)
 
 -- "forward 10, 11", on a sheet that passes
 unfoldable pub forwardOf : List ℕ → ℤ → ℤ → Plane
 forwardOf s north west =
     need (latitudeKnown s north) (noPlane 10)
     (need (longitudeKnown s west) (noPlane 11)
-    (plane 0 (xOf s (natAbs (fromFirst s north)) (lOf s west)) (yOf s (natAbs (fromFirst s north)) (lOf s west))))
+    (plane 0 (xOf s (natAbs (fromFirst s north)) (lOf s west)) (yOf s (natAbs (fromFirst s north)) (natAbs (lOf s west)))))
 
 unfoldable pub geographicToPlane : List ℕ → ℤ → ℤ → Plane
 geographicToPlane s north west = afterCheck (λ r. r .number) noPlane s (forwardOf s north west)

@@ -1,4 +1,4 @@
--- "Plane to geographic." x and y in 0.01 ft, latitude and longitude in 0.001″. s is the sheet, x′ is written xp.
+-- "Plane to geographic." x and y in 0.01 ft, latitude and longitude in 0.001″. s is the sheet, xp is x′, and x, where a step takes it, the size of x′.
 use mathlib.Core.List.{List}
 use Prim.Native.Nat.{ℕ, _+_, _-_, _*_}
 use lib.IntN.{ℤ, pos, natAbs, _+ℤ_, _-ℤ_}
@@ -14,8 +14,8 @@ use Rattle.convert.specs.declared.Geographic.{Geographic}
 use Rattle.convert.specs.Answers.{geographic, noGeographic, afterCheck}
 
 -- "P is read at y, d at |x′|. Reduced northing = y − nearest hundredth of (P(x′/10,000)² + d)"
-unfoldable pub reducedNorthing : List ℕ → ℤ → ℤ → ℤ
-reducedNorthing s xp y = y -ℤ reduction (pAt s (natAbs y)) (natAbs xp) (dAt s (natAbs xp))
+unfoldable pub reducedNorthing : List ℕ → ℕ → ℤ → ℤ
+reducedNorthing s x y = y -ℤ reduction (pAt s (natAbs y)) x (dAt s x)
 
 -- "The row is the last with y0 not above it"
 unfoldable pub rowOf : List ℕ → ℤ → ℕ
@@ -34,22 +34,22 @@ unfoldable pub distanceOf : List ℕ → ℤ → ℕ
 distanceOf s reduced = rowOf s reduced * stepOf latitude + secondsPast s reduced (rowOf s reduced)
 
 -- "Read H and a there. Approximate L = |x′|/H to a whole second", here in 0.001″. t is the latitude's distance from row 0.
-unfoldable pub approximateOf : List ℕ → ℤ → ℕ → ℕ
-approximateOf s xp t = approximateL (natAbs xp) (hAt s t) * 1_000
+unfoldable pub approximateOf : List ℕ → ℕ → ℕ → ℕ
+approximateOf s x t = approximateL x (hAt s t) * 1_000
 
 -- "b is read at it. The size of L is (|x′| − a·b)/H to 0.001"
-unfoldable pub sizeOf : List ℕ → ℤ → ℕ → ℤ
-sizeOf s xp t = sizeOfL (natAbs xp) (aAt s t) (bAt s (approximateOf s xp t)) (hAt s t)
+unfoldable pub sizeOf : List ℕ → ℕ → ℕ → ℤ
+sizeOf s x t = sizeOfL x (aAt s t) (bAt s (approximateOf s x t)) (hAt s t)
 
 -- "with the sign of x′. Longitude = central meridian − L."
 unfoldable pub longitudeOf : List ℕ → ℤ → ℕ → ℤ
-longitudeOf s xp t = centralMeridian s -ℤ withSign xp (sizeOf s xp t)
+longitudeOf s xp t = centralMeridian s -ℤ withSign xp (sizeOf s (natAbs xp) t)
 
 -- "inverse 12, 13, 14, 11", on a sheet that passes; 11: "the size of L (.. approximate or final) above the last kind 3 row".
 unfoldable pub fromDistance : List ℕ → ℤ → ℕ → Geographic
 fromDistance s xp t =
-    need (sizeKnown s (pos (approximateOf s xp t))) (noGeographic 11)
-    (need (sizeKnown s (sizeOf s xp t)) (noGeographic 11)
+    need (sizeKnown s (pos (approximateOf s (natAbs xp) t))) (noGeographic 11)
+    (need (sizeKnown s (sizeOf s (natAbs xp) t)) (noGeographic 11)
     (geographic 0 (firstLatitude s +ℤ pos t) (longitudeOf s xp t)))
 
 unfoldable pub fromReduced : List ℕ → ℤ → ℤ → Geographic
@@ -59,7 +59,7 @@ unfoldable pub inverseOf : List ℕ → ℤ → ℤ → Geographic
 inverseOf s x y =
     need (eastingKnown s (xPrime s x)) (noGeographic 12)
     (need (northingKnown s y) (noGeographic 13)
-    (fromReduced s (xPrime s x) (reducedNorthing s (xPrime s x) y)))
+    (fromReduced s (xPrime s x) (reducedNorthing s (natAbs (xPrime s x)) y)))
 
 unfoldable pub planeToGeographic : List ℕ → ℤ → ℤ → Geographic
 planeToGeographic s x y = afterCheck (λ r. r .number) noGeographic s (inverseOf s x y)

@@ -9,7 +9,7 @@ ghost use Rattle.contents.specs.Layout.{latitude, longitude, northing, easting,
 ghost use Rattle.contents.specs.Entries.{rowsOf, placesOf};
 ghost use Rattle.bodies.specs.Check.{checkOf};
 ghost use Rattle.extent.specs.Extent.{sizeKnown, eastingKnown, northingKnown, reducedKnown};
-ghost use Rattle.convert.specs.Forward.{xOf, yOf, geographicToPlane};
+ghost use Rattle.convert.specs.Forward.{xSize, xOf, yOf, geographicToPlane};
 ghost use Rattle.convert.specs.Inverse.{reducedNorthing, rowOf, secondsPast, distanceOf, approximateOf, sizeOf, fromDistance, planeToGeographic};
 ghost use Rattle.convert.specs.Grid.{convergenceAndScale};
 
@@ -36,29 +36,35 @@ pub struct Grid {
 
 // ---- geographic to plane
 
-// x, in 0.01 ft, at the latitude's distance t from row 0 and L.
+// The size of x′, in 0.01 ft, at the latitude's distance t from row 0 and the size of L.
+fn x_size(s: &[u8], p: Places, t: u64, size: u64) -> i64
+    requires { ⌜ (checkOf (now s) .number ≡ 0) × (p ≡ placesOf (now s)) × (t ≤ (rowsOf (now s) latitude - 1) * stepOf latitude) × (size ≤ (rowsOf (now s) longitude - 1) * stepOf longitude) ⌝ }
+    ensures { λ r. ⌜ (r ≡ xSize (now (s .entry)) t size) × (natAbs r ≤ 61_204_000) ⌝ }
+{
+    let h = tables::h_at(s, p, t);
+    let a = tables::a_at(s, p, t);
+    let b = tables::b_at(s, p, size);
+    figures::size_of_x(h, size, a, b)
+}
+
+// x, in 0.01 ft.
 fn x_of(s: &[u8], p: Places, t: u64, l: i64) -> i32
     requires { ⌜ (checkOf (now s) .number ≡ 0) × (p ≡ placesOf (now s)) × (t ≤ (rowsOf (now s) latitude - 1) * stepOf latitude) × (natAbs l ≤ (rowsOf (now s) longitude - 1) * stepOf longitude) ⌝ }
     ensures { λ r. ⌜ r ≡ xOf (now (s .entry)) t l ⌝ }
 {
-    let size = figures::size(l);
-    let h = tables::h_at(s, p, t);
-    let a = tables::a_at(s, p, t);
-    let b = tables::b_at(s, p, size);
-    let x = figures::with_sign(l, figures::size_of_x(h, size, a, b));
+    let x = figures::with_sign(l, x_size(s, p, t, figures::size(l)));
     (x + tables::false_easting(s, p)) as i32
 }
 
-// y, in 0.01 ft, there.
-fn y_of(s: &[u8], p: Places, t: u64, l: i64) -> i32
-    requires { ⌜ (checkOf (now s) .number ≡ 0) × (p ≡ placesOf (now s)) × (t ≤ (rowsOf (now s) latitude - 1) * stepOf latitude) × (natAbs l ≤ (rowsOf (now s) longitude - 1) * stepOf longitude) ⌝ }
-    ensures { λ r. ⌜ r ≡ yOf (now (s .entry)) t l ⌝ }
+// y, in 0.01 ft.
+fn y_of(s: &[u8], p: Places, t: u64, size: u64) -> i32
+    requires { ⌜ (checkOf (now s) .number ≡ 0) × (p ≡ placesOf (now s)) × (t ≤ (rowsOf (now s) latitude - 1) * stepOf latitude) × (size ≤ (rowsOf (now s) longitude - 1) * stepOf longitude) ⌝ }
+    ensures { λ r. ⌜ r ≡ yOf (now (s .entry)) t size ⌝ }
 {
-    let size = figures::size(l);
-    let y0 = tables::y0_at(s, p, t);
     let v = tables::v_at(s, p, t);
     let c = tables::c_at(s, p, size);
-    (y0 + figures::rise(v, figures::q_of(size), c)) as i32
+    let rise = figures::rise(v, figures::q_of(size), c);
+    (tables::y0_at(s, p, t) + rise) as i32
 }
 
 // Geographic to plane, on a sheet known to pass, with its places.
@@ -85,7 +91,7 @@ pub fn forward(s: &[u8], p: Places, latitude: i32, longitude: i32) -> Plane
     Plane {
         number: 0,
         x: x_of(s, p, t, l),
-        y: y_of(s, p, t, l),
+        y: y_of(s, p, t, figures::size(l)),
     }
 }
 
@@ -102,16 +108,15 @@ pub fn geographic_to_plane(sheet: &[u8], latitude: i32, longitude: i32) -> Plane
 
 // ---- plane to geographic
 
-// The reduced northing, in 0.01 ft.
-fn reduced_northing(s: &[u8], p: Places, xp: i64, y: i32) -> i64
-    requires { ⌜ (checkOf (now s) .number ≡ 0) × (p ≡ placesOf (now s)) × (eastingKnown (now s) xp ≡ true) × (northingKnown (now s) y ≡ true) ⌝ }
-    ensures { λ r. ⌜ (r ≡ reducedNorthing (now (s .entry)) xp y) × (natAbs r < 2 ^ 62) ⌝ }
+// The reduced northing, in 0.01 ft, at the size x of x′ and y.
+fn reduced_northing(s: &[u8], p: Places, x: u64, y: i32) -> i64
+    requires { ⌜ (checkOf (now s) .number ≡ 0) × (p ≡ placesOf (now s)) × (x ≤ (rowsOf (now s) easting - 1) * stepOf easting) × (northingKnown (now s) y ≡ true) ⌝ }
+    ensures { λ r. ⌜ (r ≡ reducedNorthing (now (s .entry)) x y) × (natAbs r < 2 ^ 62) ⌝ }
 {
-    let size = figures::size(xp);
     let north = y as i64;
     let big_p = tables::p_at(s, p, north as u64);
-    let d = tables::d_at(s, p, size);
-    north - figures::reduction(big_p, size, d)
+    let d = tables::d_at(s, p, x);
+    north - figures::reduction(big_p, x, d)
 }
 
 // The seconds of the reduced northing past its row, in 0.001″.
@@ -141,23 +146,23 @@ fn distance_of(s: &[u8], p: Places, reduced: i64) -> u64
     (row as u64) * contents::step_of(contents::LATITUDE) + seconds_past(s, p, reduced, row)
 }
 
-// Approximate L at the distance t, in 0.001″.
-fn approximate_of(s: &[u8], p: Places, xp: i64, t: u64) -> u64
-    requires { ⌜ (checkOf (now s) .number ≡ 0) × (p ≡ placesOf (now s)) × (eastingKnown (now s) xp ≡ true) × (t ≤ (rowsOf (now s) latitude - 1) * stepOf latitude) ⌝ }
-    ensures { λ r. ⌜ (r ≡ approximateOf (now (s .entry)) xp t) × (r < 2 ^ 62) ⌝ }
+// Approximate L, in 0.001″, at the size x of x′ and the latitude's distance t from row 0.
+fn approximate_of(s: &[u8], p: Places, x: u64, t: u64) -> u64
+    requires { ⌜ (checkOf (now s) .number ≡ 0) × (p ≡ placesOf (now s)) × (x ≤ (rowsOf (now s) easting - 1) * stepOf easting) × (t ≤ (rowsOf (now s) latitude - 1) * stepOf latitude) ⌝ }
+    ensures { λ r. ⌜ (r ≡ approximateOf (now (s .entry)) x t) × (r ≤ 30_000_000) ⌝ }
 {
-    figures::approximate_l(figures::size(xp), tables::h_at(s, p, t)) * 1_000
+    figures::approximate_l(x, tables::h_at(s, p, t)) * 1_000
 }
 
 // The size of L there, in 0.001″.
-fn size_of(s: &[u8], p: Places, xp: i64, t: u64, approximate: u64) -> i64
-    requires { ⌜ (checkOf (now s) .number ≡ 0) × (p ≡ placesOf (now s)) × (eastingKnown (now s) xp ≡ true) × (t ≤ (rowsOf (now s) latitude - 1) * stepOf latitude) × (approximate ≡ approximateOf (now s) xp t) × (sizeKnown (now s) (pos approximate) ≡ true) ⌝ }
-    ensures { λ r. ⌜ r ≡ sizeOf (now (s .entry)) xp t ⌝ }
+fn size_of(s: &[u8], p: Places, x: u64, t: u64, approximate: u64) -> i64
+    requires { ⌜ (checkOf (now s) .number ≡ 0) × (p ≡ placesOf (now s)) × (x ≤ (rowsOf (now s) easting - 1) * stepOf easting) × (t ≤ (rowsOf (now s) latitude - 1) * stepOf latitude) × (approximate ≡ approximateOf (now s) x t) × (sizeKnown (now s) (pos approximate) ≡ true) ⌝ }
+    ensures { λ r. ⌜ r ≡ sizeOf (now (s .entry)) x t ⌝ }
 {
     let h = tables::h_at(s, p, t);
     let a = tables::a_at(s, p, t);
     let b = tables::b_at(s, p, approximate);
-    figures::size_of_l(figures::size(xp), a, b, h)
+    figures::size_of_l(x, a, b, h)
 }
 
 // Latitude and longitude, from x′ and the latitude's distance t from row 0.
@@ -165,7 +170,8 @@ fn from_distance(s: &[u8], p: Places, xp: i64, t: u64) -> Geographic
     requires { ⌜ (checkOf (now s) .number ≡ 0) × (p ≡ placesOf (now s)) × (eastingKnown (now s) xp ≡ true) × (t ≤ (rowsOf (now s) latitude - 1) * stepOf latitude) ⌝ }
     ensures { λ r. ⌜ r ≡ fromDistance (now (s .entry)) xp t ⌝ }
 {
-    let approximate = approximate_of(s, p, xp, t);
+    let x = figures::size(xp);
+    let approximate = approximate_of(s, p, x, t);
     if !extent::size_known(s, p, approximate as i64) {
         return Geographic {
             number: 11,
@@ -173,7 +179,7 @@ fn from_distance(s: &[u8], p: Places, xp: i64, t: u64) -> Geographic
             longitude: 0,
         };
     }
-    let size = size_of(s, p, xp, t, approximate);
+    let size = size_of(s, p, x, t, approximate);
     if !extent::size_known(s, p, size) {
         return Geographic {
             number: 11,
@@ -208,7 +214,7 @@ pub fn inverse(s: &[u8], p: Places, x: i32, y: i32) -> Geographic
             longitude: 0,
         };
     }
-    let reduced = reduced_northing(s, p, xp, y);
+    let reduced = reduced_northing(s, p, figures::size(xp), y);
     if !extent::reduced_known(s, p, reduced) {
         return Geographic {
             number: 14,
@@ -237,7 +243,7 @@ pub fn plane_to_geographic(sheet: &[u8], x: i32, y: i32) -> Geographic
 // ---- convergence and scale
 
 // Convergence and scale, on a sheet known to pass, with its places.
-pub fn grid(s: &[u8], p: Places, x: i32, y: i32) -> Grid
+pub fn grid_at(s: &[u8], p: Places, x: i32, y: i32) -> Grid
     requires { ⌜ (checkOf (now s) .number ≡ 0) × (p ≡ placesOf (now s)) ⌝ }
     ensures { λ r. ⌜ r ≡ convergenceAndScale (now (s .entry)) x y ⌝ }
 {
@@ -277,5 +283,5 @@ pub fn convergence_and_scale(sheet: &[u8], x: i32, y: i32) -> Grid
             scale: 0,
         };
     }
-    grid(sheet, contents::places_of(sheet), x, y)
+    grid_at(sheet, contents::places_of(sheet), x, y)
 }

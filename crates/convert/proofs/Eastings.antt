@@ -1,0 +1,85 @@
+-- Geographic to plane on a sheet that passes: the size of x′ is not negative, and x and y fit 32 bits. Assumes nothing.
+use mathlib.Core.Path.{_≡_, sym, ap, _∙_}
+use mathlib.Core.List.{List}
+use Prim.Native.Nat.{ℕ, suc, _*_, _-_, _≤_}
+use native.Mathlib.Nat.{le-trans, mul-le-mul-right}
+use native.Mathlib.Omega.{arith}
+use lib.Dec.{T}
+use lib.IntN.{ℤ, pos, negsuc, natAbs, _+ℤ_, _*ℤ_}
+use lib.Signed.{nonNeg}
+use Rattle.figures.specs.Nearest.{withSign}
+use Rattle.figures.specs.Ranges.{mostH, mostV, mostA, mostB, mostC, mostS, mostQ}
+use Rattle.figures.specs.Steps.{qOf, sizeOfX, rise}
+use Rattle.figures.proofs.Sizes.{subℕ-le, size-product, size-withSign, sum-most, product-most}
+use Rattle.figures.proofs.StepBounds.{q-most, x-size-most, rise-most}
+use Rattle.contents.specs.Layout.{latitude, longitude, stepOf}
+use Rattle.contents.specs.Entries.{rowsOf}
+use Rattle.bodies.specs.Check.{checkOf}
+use Rattle.tables.specs.Figures.{falseEasting, y0At, hAt, vAt, aAt, bAt, cAt}
+use Rattle.tables.proofs.Ranges.{easting-size, y0-between, h-between, v-between, a-most, b-between, b-slope, c-between}
+use Rattle.extent.proofs.Reach.{longitude-span}
+use Rattle.convert.specs.Forward.{xSize, xOf, yOf}
+
+-- what is at most n in size does not turn n negative
+pub sum-nonNeg : (n : ℕ) (z : ℤ) → natAbs z ≤ n → T (nonNeg (pos n +ℤ z))
+sum-nonNeg n (pos m) h = tt
+sum-nonNeg n (negsuc m) h = rw (subℕ-le {a = n} {b = suc m} h) tt
+
+-- ---- the steps, from the figures as they were read: a′, b′ and c′ have the bits of a, b and c
+module _ (s : List ℕ) (t size : ℕ) where
+  pub x-worked : {h : ℕ} {a a′ b b′ : ℤ} → h ≡ hAt s t → a′ ≡ a → a ≡ aAt s t → b′ ≡ b → b ≡ bAt s size → sizeOfX h size a′ b′ ≡ xSize s t size
+  unfolding xSize
+  x-worked p e f g k = rw (e ∙ f, g ∙ k, p)
+
+  pub rise-worked : {v q : ℕ} {c c′ : ℤ} → v ≡ vAt s t → q ≡ qOf size → c′ ≡ c → c ≡ cAt s size → rise v q c′ ≡ rise (vAt s t) (qOf size) (cAt s size)
+  rise-worked p e f g = rw (f ∙ g, e, p)
+
+-- n is the size of L, and l′ and x′ have the bits of L and of the size of x′
+pub sign-worked : (s : List ℕ) (t : ℕ) (l : ℤ) {n : ℕ} {l′ x x′ : ℤ} → l′ ≡ l → n ≡ natAbs l → x′ ≡ x → x ≡ xSize s t n → withSign l′ x′ ≡ withSign l (xSize s t (natAbs l))
+sign-worked s t l p q e f = rw (e ∙ f, q, p)
+
+-- ---- at a place within the tables
+module _ (s : List ℕ) (z : checkOf s .number ≡ 0) (t : ℕ) (ht : t ≤ (rowsOf s latitude - 1) * stepOf latitude) where
+  pub h-least : 30_000_000 ≤ hAt s t
+  unfolding hAt
+  h-least = h-between s z t ht .low
+
+  pub h-most : hAt s t ≤ mostH
+  unfolding hAt
+  h-most = h-between s z t ht .high
+
+  v-most : vAt s t ≤ mostV
+  unfolding vAt
+  v-most = v-between s z t ht .high
+
+  module _ (size : ℕ) (hl : size ≤ (rowsOf s longitude - 1) * stepOf longitude) where
+    pub s-most : size ≤ mostS
+    s-most = le-trans hl (longitude-span s z)
+
+    pub x-size : natAbs (xSize s t size) ≤ 61_204_000
+    unfolding xSize
+    x-size = x-size-most (hAt s t) size (aAt s t) (bAt s size) h-most s-most (a-most s z t ht) (b-between s z size hl)
+
+    pub y-rise : natAbs (rise (vAt s t) (qOf size) (cAt s size)) ≤ 504_200
+    y-rise = rise-most (vAt s t) (qOf size) (cAt s size) v-most (q-most size s-most) (c-between s z size hl)
+
+    -- H·s + a·b is not negative
+    pub x-not-negative : T (nonNeg (pos (hAt s t * size) +ℤ aAt s t *ℤ bAt s size *ℤ pos 1_000))
+    x-not-negative =
+        let ab : natAbs (aAt s t *ℤ bAt s size *ℤ pos 1_000) ≡ natAbs (aAt s t) * natAbs (bAt s size) * 1_000 =
+        size-product (aAt s t *ℤ bAt s size) (pos 1_000) ∙ ap (λ (n : ℕ). n * 1_000) (size-product (aAt s t) (bAt s size)) in
+        sum-nonNeg (hAt s t * size) (aAt s t *ℤ bAt s size *ℤ pos 1_000)
+        (omega (arith, ab, product-most mostA size (a-most s z t ht) (b-slope s z size hl), mul-le-mul-right size h-least))
+
+    -- y fits 32 bits
+    pub y-most : natAbs (yOf s t size) ≤ 1_000_504_199
+    unfolding yOf
+    y-most = sum-most (y0At s t) (rise (vAt s t) (qOf size) (cAt s size)) {A = 999_999_999} {B = 504_200} (y0-between s z t ht .high) y-rise
+
+  -- x fits 32 bits
+  pub x-most : (l : ℤ) → natAbs l ≤ (rowsOf s longitude - 1) * stepOf longitude → natAbs (xOf s t l) ≤ 161_204_000
+  unfolding xOf
+  x-most l hl =
+      sum-most (withSign l (xSize s t (natAbs l))) (falseEasting s) {A = 61_204_000} {B = 100_000_000}
+      (rw (size-withSign l (xSize s t (natAbs l))) (x-size (natAbs l) hl))
+      (easting-size s z .high)
