@@ -24,3 +24,7 @@ bits-most r ok h = rw (bits-is {r = r} ok) h
 
 pub bits-below : (r : ℤ) {k : ℕ} → mag r < 2 ^ 63 → natAbs r ≤ k → T (ltb k (2 ^ 63)) → natAbs (toZ w64 (ofZ w64 r)) < 2 ^ 63
 bits-below r ok h t = lt-of-le-of-lt (bits-most r ok h) (ltb→lt _ _ t)
+
+-- two of a point's numbers, read from their bits
+pub both-same : {A : Type 0} (f : ℤ → ℤ → A) {a a′ b b′ : ℤ} → a′ ≡ a → b′ ≡ b → f a′ b′ ≡ f a b
+both-same f e g = rw (e, g)

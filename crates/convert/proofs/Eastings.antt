@@ -18,7 +18,9 @@ use Rattle.bodies.specs.Check.{checkOf}
 use Rattle.tables.specs.Figures.{falseEasting, y0At, hAt, vAt, aAt, bAt, cAt}
 use Rattle.tables.proofs.Ranges.{easting-size, y0-between, h-between, v-between, a-most, b-between, b-slope, c-between}
 use Rattle.extent.proofs.Reach.{longitude-span}
-use Rattle.convert.specs.Forward.{xSize, xOf, yOf}
+use Rattle.extent.specs.Extent.{fromFirst, lOf}
+use Rattle.convert.specs.Answers.{plane}
+use Rattle.convert.specs.Forward.{xSize, xOf, yOf, planeAt}
 
 -- what is at most n in size does not turn n negative
 pub sum-nonNeg : (n : ℕ) (z : ℤ) → natAbs z ≤ n → T (nonNeg (pos n +ℤ z))
@@ -37,6 +39,12 @@ module _ (s : List ℕ) (t size : ℕ) where
 -- n is the size of L, and l′ and x′ have the bits of L and of the size of x′
 pub sign-worked : (s : List ℕ) (t : ℕ) (l : ℤ) {n : ℕ} {l′ x x′ : ℤ} → l′ ≡ l → n ≡ natAbs l → x′ ≡ x → x ≡ xSize s t n → withSign l′ x′ ≡ withSign l (xSize s t (natAbs l))
 sign-worked s t l p q e f = rw (e ∙ f, q, p)
+
+-- n is the size of L, t the latitude's distance, and x′, y′ and l′ have the bits of x, y and L
+pub plane-worked : (s : List ℕ) (north west : ℤ) {t n : ℕ} {x x′ y y′ l′ : ℤ} → t ≡ natAbs (fromFirst s north) → l′ ≡ lOf s west → n ≡ natAbs l′
+    → x′ ≡ x → x ≡ xOf s t l′ → y′ ≡ y → y ≡ yOf s t n → plane 0 x′ y′ ≡ planeAt s north west
+unfolding planeAt
+plane-worked s north west p q r e f g k = rw (e ∙ f, g ∙ k, r, q, p)
 
 -- ---- at a place within the tables
 module _ (s : List ℕ) (z : checkOf s .number ≡ 0) (t : ℕ) (ht : t ≤ (rowsOf s latitude - 1) * stepOf latitude) where

@@ -1,3 +1,4 @@
 -- Laws of the conversions on a sheet that passes. Other crates cite them.
 pub mod Bits
+pub mod Checked
 pub mod Eastings

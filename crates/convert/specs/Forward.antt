@@ -24,12 +24,16 @@ xOf s t l = withSign l (xSize s t (natAbs l)) +ℤ falseEasting s
 unfoldable pub yOf : List ℕ → ℕ → ℕ → ℤ
 yOf s t size = y0At s t +ℤ rise (vAt s t) (qOf size) (cAt s size)
 
+-- The point on the plane.
+unfoldable pub planeAt : List ℕ → ℤ → ℤ → Plane
+planeAt s north west = plane 0 (xOf s (natAbs (fromFirst s north)) (lOf s west)) (yOf s (natAbs (fromFirst s north)) (natAbs (lOf s west)))
+
 -- "forward 10, 11", on a sheet that passes
 unfoldable pub forwardOf : List ℕ → ℤ → ℤ → Plane
 forwardOf s north west =
     need (latitudeKnown s north) (noPlane 10)
     (need (longitudeKnown s west) (noPlane 11)
-    (plane 0 (xOf s (natAbs (fromFirst s north)) (lOf s west)) (yOf s (natAbs (fromFirst s north)) (natAbs (lOf s west)))))
+    (planeAt s north west))
 
 unfoldable pub geographicToPlane : List ℕ → ℤ → ℤ → Plane
 geographicToPlane s north west = afterCheck (λ r. r .number) noPlane s (forwardOf s north west)

@@ -8,8 +8,8 @@ ghost use lib.IntN.{pos, natAbs};
 ghost use Rattle.contents.specs.Layout.{latitude, longitude, northing, easting, scale, stepOf};
 ghost use Rattle.contents.specs.Entries.{rowsOf, placesOf};
 ghost use Rattle.bodies.specs.Check.{checkOf};
-ghost use Rattle.extent.specs.Extent.{sizeKnown, eastingKnown, northingKnown, reducedKnown};
-ghost use Rattle.convert.specs.Forward.{xSize, xOf, yOf, geographicToPlane};
+ghost use Rattle.extent.specs.Extent.{latitudeKnown, longitudeKnown, sizeKnown, eastingKnown, northingKnown, reducedKnown};
+ghost use Rattle.convert.specs.Forward.{xSize, xOf, yOf, planeAt, geographicToPlane};
 ghost use Rattle.convert.specs.Inverse.{reducedNorthing, rowOf, secondsPast, distanceOf, approximateOf, sizeOf, fromDistance, planeToGeographic};
 ghost use Rattle.convert.specs.Grid.{convergenceAndScale};
 
@@ -67,6 +67,20 @@ fn y_of(s: &[u8], p: Places, t: u64, size: u64) -> i32
     (tables::y0_at(s, p, t) + rise) as i32
 }
 
+// The point on the plane, of a latitude and a longitude within the tables.
+fn plane_at(s: &[u8], p: Places, latitude: i32, longitude: i32) -> Plane
+    requires { ⌜ (checkOf (now s) .number ≡ 0) × (p ≡ placesOf (now s)) × (latitudeKnown (now s) latitude ≡ true) × (longitudeKnown (now s) longitude ≡ true) ⌝ }
+    ensures { λ r. ⌜ r ≡ planeAt (now (s .entry)) latitude longitude ⌝ }
+{
+    let t = extent::from_first(s, p, latitude) as u64;
+    let l = extent::l_of(s, p, longitude);
+    Plane {
+        number: 0,
+        x: x_of(s, p, t, l),
+        y: y_of(s, p, t, figures::size(l)),
+    }
+}
+
 // Geographic to plane, on a sheet known to pass, with its places.
 pub fn forward(s: &[u8], p: Places, latitude: i32, longitude: i32) -> Plane
     requires { ⌜ (checkOf (now s) .number ≡ 0) × (p ≡ placesOf (now s)) ⌝ }
@@ -86,13 +100,7 @@ pub fn forward(s: &[u8], p: Places, latitude: i32, longitude: i32) -> Plane
             y: 0,
         };
     }
-    let t = extent::from_first(s, p, latitude) as u64;
-    let l = extent::l_of(s, p, longitude);
-    Plane {
-        number: 0,
-        x: x_of(s, p, t, l),
-        y: y_of(s, p, t, figures::size(l)),
-    }
+    plane_at(s, p, latitude, longitude)
 }
 
 // Geographic to plane: the check's number, 10, 11, or x and y.

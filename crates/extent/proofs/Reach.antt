@@ -3,6 +3,7 @@ use mathlib.Core.Path.{_≡_}
 use mathlib.Core.Bool.{true, _&&_}
 use mathlib.Core.List.{List}
 use Prim.Native.Nat.{ℕ, _-_, _*_, _≤_}
+use native.Mathlib.Nat.{le-trans}
 use native.Mathlib.Omega.{arith}
 use lib.Dec.{lit≤}
 use lib.IntN.{ℤ, pos, natAbs}
@@ -67,3 +68,14 @@ module _ (s : List ℕ) where
   pub reduced-reach : (reduced : ℤ) → reducedKnown s reduced ≡ true → (leZ (y0Of s 0) reduced ≡ true) × (leZ reduced (y0Of s (rowsOf s latitude - 1)) ≡ true)
   unfolding reducedKnown
   reduced-reach reduced e = both _ _ e
+
+  -- a latitude's distance from row 0 is a small number
+  pub latitude-small : checkOf s .number ≡ 0 → (north : ℤ) → latitudeKnown s north ≡ true → Size 0 (fromFirst s north) 71_940_000
+  latitude-small z north e =
+      let r = latitude-reach north e in
+      record { is = r .is; low = r .low; high = le-trans (r .high) (latitude-span s z) }
+
+  pub northing-small : checkOf s .number ≡ 0 → (y : ℤ) → northingKnown s y ≡ true → Size 0 y 990_000_000
+  northing-small z y e =
+      let r = northing-reach y e in
+      record { is = r .is; low = r .low; high = le-trans (r .high) (northing-span s z) }

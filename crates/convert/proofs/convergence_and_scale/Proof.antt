@@ -1,31 +1,32 @@
+-- `convert::convergence_and_scale` meets its contract. Assumes nothing.
+use mathlib.Core.Path.{_≡_, sym, ap, _∙_}
+use mir.Syntax.{w32}
+use mir.Val.{toZ, ofZ}
+use Rattle.convert.specs.Grid.{convergenceAndScale}
+use Rattle.convert.proofs.Checked.{grid-refused, sheet-long}
+use Rattle.convert.proofs.Bits.{both-same}
 use borrow.Author.Needs.{needs}
 use Rattle.convert.proofs.convergence_and_scale.Statement.{statement}
 use Rattle.convert.proofs.convergence_and_scale.Tie as tie
-use Rattle.convert.proofs.convergence_and_scale.Reads as reads
-use Rattle.convert.proofs.convergence_and_scale.Lts as lts
-use Rattle.bodies.proofs.check.Reads as check-reads
-use Rattle.contents.proofs.places_of.Reads as places-of-reads
-use Rattle.convert.proofs.grid_at.Reads as grid-at-reads
 
--- src/lib.rt:278:18
+returns : tie.Need-returns
+returns c = grid-refused _ _ _ _ (ap (λ v. v .number) (c .before .check .ensures)) (c .if1 .taken)
+
+returns-2 : tie.Need-returns-2
+returns-2 c =
+    let start = c .before .before .before .before .before in
+    let one : toZ w32 (ofZ w32 (start .args .x)) ≡ start .args .x = search needs in
+    let two : toZ w32 (ofZ w32 (start .args .y)) ≡ start .args .y = search needs in
+    c .grid-at .ensures ∙ both-same (convergenceAndScale _) one two
+
 check-requires : tie.Need-check-requires
 check-requires c κs = search needs
 
--- src/lib.rt:280:9
-returns : tie.Need-returns
-returns c = ?
-
--- src/lib.rt:286:20
 places-of-requires : tie.Need-places-of-requires
-places-of-requires c κs = ?
+places-of-requires c κs = sheet-long _ (sym (ap (λ v. v .number) (c .before .check .ensures)) ∙ c .if1 .left)
 
--- src/lib.rt:286:5
 grid-at-requires : tie.Need-grid-at-requires
-grid-at-requires c κs = ?
-
--- src/lib.rt:275:1
-returns-2 : tie.Need-returns-2
-returns-2 c = ?
+grid-at-requires c κs = (sym (ap (λ v. v .number) (c .before .before .check .ensures)) ∙ c .before .if1 .left, c .places-of .ensures)
 
 pub convergence-and-scale-spec : {M : Type 1} → statement M
 convergence-and-scale-spec =

@@ -1,59 +1,62 @@
+-- `convert::forward` meets its contract. Assumes nothing.
+use mathlib.Core.Path.{_≡_, ap, _∙_}
+use denote.Ref.{now}
+use mir.Syntax.{w32}
+use mir.Val.{toZ, ofZ}
+use Rattle.words.proofs.Refusals.{stop, go, kept}
+use Rattle.extent.specs.Extent.{latitudeKnown, longitudeKnown}
+use Rattle.convert.specs.Forward.{planeAt, forwardOf}
+use Rattle.convert.proofs.Checked.{forward-passes}
+use Rattle.convert.proofs.Bits.{both-same}
 use borrow.Author.Needs.{needs}
 use Rattle.convert.proofs.forward.Statement.{statement}
 use Rattle.convert.proofs.forward.Tie as tie
-use Rattle.convert.proofs.forward.Reads as reads
-use Rattle.convert.proofs.forward.Lts as lts
-use Rattle.convert.proofs.x_of.Reads as x-of-reads
-use Rattle.convert.proofs.y_of.Reads as y-of-reads
-use Rattle.extent.proofs.from_first.Reads as from-first-reads
-use Rattle.extent.proofs.l_of.Reads as l-of-reads
-use Rattle.extent.proofs.latitude_known.Reads as latitude-known-reads
-use Rattle.extent.proofs.longitude_known.Reads as longitude-known-reads
-use Rattle.figures.proofs.size.Reads as size-reads
 
--- src/lib.rt:75:9
+-- the tests, of the point itself
+latitude-is : (c : tie.After-latitude-known) → c .latitude-known .result ≡ latitudeKnown (now (c .before .before .args .s)) (c .before .before .args .latitude)
+latitude-is c =
+    let same : toZ w32 (ofZ w32 (c .before .before .args .latitude)) ≡ c .before .before .args .latitude = search needs in
+    c .latitude-known .ensures ∙ ap (latitudeKnown _) same
+
+longitude-is : (c : tie.After-longitude-known) → c .longitude-known .result ≡ longitudeKnown (now (c .before .before .before .before .args .s)) (c .before .before .before .before .args .longitude)
+longitude-is c =
+    let same : toZ w32 (ofZ w32 (c .before .before .before .before .args .longitude)) ≡ c .before .before .before .before .args .longitude = search needs in
+    c .longitude-known .ensures ∙ ap (longitudeKnown _) same
+
+returns : tie.Need-returns
+unfolding forwardOf
+returns c =
+    let start = c .before .before .before in
+    forward-passes _ _ _ _ (start .pre .0) (stop _ _ _ _ (latitude-is (c .before)) (c .if1 .taken))
+
+returns-2 : tie.Need-returns-2
+unfolding forwardOf
+returns-2 c =
+    let start = c .before .before .before .before .before in
+    forward-passes _ _ _ _ (start .pre .0)
+    (go _ _ _ _ _ (latitude-is (c .before .before .before)) (c .before .before .if1 .left) (stop _ _ _ _ (longitude-is (c .before)) (c .if2 .taken)))
+
+returns-3 : tie.Need-returns-3
+unfolding forwardOf
+returns-3 c =
+    let start = c .before .before .before .before .before .before in
+    let north : toZ w32 (ofZ w32 (start .args .latitude)) ≡ start .args .latitude = search needs in
+    let west : toZ w32 (ofZ w32 (start .args .longitude)) ≡ start .args .longitude = search needs in
+    let point = c .plane-at .ensures ∙ both-same (planeAt _) north west in
+    forward-passes _ _ _ _ (start .pre .0)
+    (go _ _ _ _ _ (latitude-is (c .before .before .before .before)) (c .before .before .before .if1 .left)
+    (go _ _ _ _ _ (longitude-is (c .before .before)) (c .before .if2 .left) point))
+
 latitude-known-requires : tie.Need-latitude-known-requires
 latitude-known-requires c κs = search needs
 
--- src/lib.rt:76:9
-returns : tie.Need-returns
-returns c = ?
-
--- src/lib.rt:82:9
 longitude-known-requires : tie.Need-longitude-known-requires
 longitude-known-requires c κs = search needs
 
--- src/lib.rt:83:9
-returns-2 : tie.Need-returns-2
-returns-2 c = ?
-
--- src/lib.rt:89:13
-from-first-requires : tie.Need-from-first-requires
-from-first-requires c κs = search needs
-
--- src/lib.rt:89:13
-cast-t : tie.Need-cast-t
-cast-t c = ?
-
--- src/lib.rt:90:9
-l-of-requires : tie.Need-l-of-requires
-l-of-requires c κs = search needs
-
--- src/lib.rt:93:12
-x-of-requires : tie.Need-x-of-requires
-x-of-requires c κs = ?
-
--- src/lib.rt:94:26
-size-requires : tie.Need-size-requires
-size-requires c κs = ?
-
--- src/lib.rt:94:12
-y-of-requires : tie.Need-y-of-requires
-y-of-requires c κs = ?
-
--- src/lib.rt:71:1
-returns-3 : tie.Need-returns-3
-returns-3 c = ?
+plane-at-requires : tie.Need-plane-at-requires
+plane-at-requires c κs =
+    let start = c .before .before .before .before .before in
+    (start .pre .0, start .pre .1, kept _ _ (c .before .before .before .latitude-known .ensures) (c .before .before .if1 .left), kept _ _ (c .before .longitude-known .ensures) (c .if2 .left))
 
 pub forward-spec : {M : Type 1} → statement M
 forward-spec =
@@ -63,10 +66,5 @@ forward-spec =
     returns
     longitude-known-requires
     returns-2
-    from-first-requires
-    cast-t
-    l-of-requires
-    x-of-requires
-    size-requires
-    y-of-requires
+    plane-at-requires
     returns-3)

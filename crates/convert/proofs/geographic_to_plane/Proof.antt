@@ -1,31 +1,32 @@
+-- `convert::geographic_to_plane` meets its contract. Assumes nothing.
+use mathlib.Core.Path.{_≡_, sym, ap, _∙_}
+use mir.Syntax.{w32}
+use mir.Val.{toZ, ofZ}
+use Rattle.convert.specs.Forward.{geographicToPlane}
+use Rattle.convert.proofs.Checked.{forward-refused, sheet-long}
+use Rattle.convert.proofs.Bits.{both-same}
 use borrow.Author.Needs.{needs}
 use Rattle.convert.proofs.geographic_to_plane.Statement.{statement}
 use Rattle.convert.proofs.geographic_to_plane.Tie as tie
-use Rattle.convert.proofs.geographic_to_plane.Reads as reads
-use Rattle.convert.proofs.geographic_to_plane.Lts as lts
-use Rattle.bodies.proofs.check.Reads as check-reads
-use Rattle.contents.proofs.places_of.Reads as places-of-reads
-use Rattle.convert.proofs.forward.Reads as forward-reads
 
--- src/lib.rt:102:18
+returns : tie.Need-returns
+returns c = forward-refused _ _ _ _ (ap (λ v. v .number) (c .before .check .ensures)) (c .if1 .taken)
+
+returns-2 : tie.Need-returns-2
+returns-2 c =
+    let start = c .before .before .before .before .before in
+    let one : toZ w32 (ofZ w32 (start .args .latitude)) ≡ start .args .latitude = search needs in
+    let two : toZ w32 (ofZ w32 (start .args .longitude)) ≡ start .args .longitude = search needs in
+    c .forward .ensures ∙ both-same (geographicToPlane _) one two
+
 check-requires : tie.Need-check-requires
 check-requires c κs = search needs
 
--- src/lib.rt:104:9
-returns : tie.Need-returns
-returns c = ?
-
--- src/lib.rt:106:20
 places-of-requires : tie.Need-places-of-requires
-places-of-requires c κs = ?
+places-of-requires c κs = sheet-long _ (sym (ap (λ v. v .number) (c .before .check .ensures)) ∙ c .if1 .left)
 
--- src/lib.rt:106:5
 forward-requires : tie.Need-forward-requires
-forward-requires c κs = ?
-
--- src/lib.rt:99:1
-returns-2 : tie.Need-returns-2
-returns-2 c = ?
+forward-requires c κs = (sym (ap (λ v. v .number) (c .before .before .check .ensures)) ∙ c .before .if1 .left, c .places-of .ensures)
 
 pub geographic-to-plane-spec : {M : Type 1} → statement M
 geographic-to-plane-spec =

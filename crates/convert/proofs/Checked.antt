@@ -1,0 +1,60 @@
+-- A conversion on a sheet that passes the check is what comes after the check, and on another sheet the check's number. Assumes nothing.
+use mathlib.Core.Path.{_≡_, refl, sym, _∙_}
+use mathlib.Core.List.{List}
+use Prim.Native.Nat.{ℕ, _≤_}
+use native.Mathlib.Omega.{arith}
+use lib.IntN.{ℤ}
+use lib.ListN.{length}
+use Rattle.words.proofs.Refusals.{refused, passed-on}
+use Rattle.contents.specs.Layout.{leastBytes}
+use Rattle.contents.proofs.Passing.{passed}
+use Rattle.bodies.specs.Check.{checkOf}
+use Rattle.tables.proofs.Parts.{contents-none}
+use Rattle.convert.specs.declared.Plane.{Plane}
+use Rattle.convert.specs.declared.Geographic.{Geographic}
+use Rattle.convert.specs.declared.Grid.{Grid}
+use Rattle.convert.specs.Answers.{noPlane, noGeographic, noGrid, afterCheck}
+use Rattle.convert.specs.Forward.{forwardOf, geographicToPlane}
+use Rattle.convert.specs.Inverse.{inverseOf, planeToGeographic}
+use Rattle.convert.specs.Grid.{gridOf, convergenceAndScale}
+
+-- ---- `refuse` carries a number
+module _ {A : Type 0} (number : A → ℕ) (refuse : ℕ → A) (carries : (n : ℕ) → number (refuse n) ≡ n) (s : List ℕ) (rest : A) where
+  pub after-pass : checkOf s .number ≡ 0 → afterCheck number refuse s rest ≡ rest
+  after-pass z = sym (passed-on number (refuse (checkOf s .number)) rest (refuse (checkOf s .number)) refl rest (carries (checkOf s .number) ∙ z) refl)
+
+  pub on-pass : (r : A) → checkOf s .number ≡ 0 → r ≡ rest → r ≡ afterCheck number refuse s rest
+  on-pass r z e = e ∙ sym (after-pass z)
+
+  pub after-fault : (n : ℕ) → n ≡ checkOf s .number → (n ≡ 0 → ⊥) → refuse n ≡ afterCheck number refuse s rest
+  after-fault n e h = refused number (refuse (checkOf s .number)) rest (refuse n) (rw e) (λ k. h (sym (carries n) ∙ k))
+
+-- ---- a sheet that passes has its contents
+pub sheet-long : (s : List ℕ) → checkOf s .number ≡ 0 → leastBytes ≤ length s
+sheet-long s z = passed s (contents-none s z) .long
+
+-- ---- each conversion
+module _ (s : List ℕ) (a b : ℤ) where
+  pub forward-passes : (r : Plane) → checkOf s .number ≡ 0 → r ≡ forwardOf s a b → r ≡ geographicToPlane s a b
+  unfolding geographicToPlane
+  forward-passes r z e = on-pass (λ r. r .number) noPlane (λ n. refl) s (forwardOf s a b) r z e
+
+  pub forward-refused : (n : ℕ) → n ≡ checkOf s .number → (n ≡ 0 → ⊥) → noPlane n ≡ geographicToPlane s a b
+  unfolding geographicToPlane
+  forward-refused n e h = after-fault (λ r. r .number) noPlane (λ n. refl) s (forwardOf s a b) n e h
+
+  pub inverse-passes : (r : Geographic) → checkOf s .number ≡ 0 → r ≡ inverseOf s a b → r ≡ planeToGeographic s a b
+  unfolding planeToGeographic
+  inverse-passes r z e = on-pass (λ r. r .number) noGeographic (λ n. refl) s (inverseOf s a b) r z e
+
+  pub inverse-refused : (n : ℕ) → n ≡ checkOf s .number → (n ≡ 0 → ⊥) → noGeographic n ≡ planeToGeographic s a b
+  unfolding planeToGeographic
+  inverse-refused n e h = after-fault (λ r. r .number) noGeographic (λ n. refl) s (inverseOf s a b) n e h
+
+  pub grid-passes : (r : Grid) → checkOf s .number ≡ 0 → r ≡ gridOf s a b → r ≡ convergenceAndScale s a b
+  unfolding convergenceAndScale
+  grid-passes r z e = on-pass (λ r. r .number) noGrid (λ n. refl) s (gridOf s a b) r z e
+
+  pub grid-refused : (n : ℕ) → n ≡ checkOf s .number → (n ≡ 0 → ⊥) → noGrid n ≡ convergenceAndScale s a b
+  unfolding convergenceAndScale
+  grid-refused n e h = after-fault (λ r. r .number) noGrid (λ n. refl) s (gridOf s a b) n e h
