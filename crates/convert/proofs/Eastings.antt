@@ -1,5 +1,5 @@
 -- Geographic to plane on a sheet that passes: the size of x′ is not negative, and x and y fit 32 bits. Assumes nothing.
-use mathlib.Core.Path.{_≡_, sym, ap, _∙_}
+use mathlib.Core.Path.{_≡_, ap, _∙_}
 use mathlib.Core.List.{List}
 use Prim.Native.Nat.{ℕ, suc, _*_, _-_, _≤_}
 use native.Mathlib.Nat.{le-trans, mul-le-mul-right}
@@ -8,7 +8,7 @@ use lib.Dec.{T}
 use lib.IntN.{ℤ, pos, negsuc, natAbs, _+ℤ_, _*ℤ_}
 use lib.Signed.{nonNeg}
 use Rattle.figures.specs.Nearest.{withSign}
-use Rattle.figures.specs.Ranges.{mostH, mostV, mostA, mostB, mostC, mostS, mostQ}
+use Rattle.figures.specs.Ranges.{mostH, mostV, mostA, mostS}
 use Rattle.figures.specs.Steps.{qOf, sizeOfX, rise}
 use Rattle.figures.proofs.Sizes.{subℕ-le, size-product, size-withSign, sum-most, product-most}
 use Rattle.figures.proofs.StepBounds.{q-most, x-size-most, rise-most}

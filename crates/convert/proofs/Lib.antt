@@ -2,3 +2,6 @@
 pub mod Bits
 pub mod Checked
 pub mod Eastings
+pub mod Distances
+pub mod Longitudes
+pub mod Convergences

@@ -14,12 +14,16 @@ use Rattle.convert.specs.Answers.{grid, noGrid, afterCheck}
 unfoldable pub convergenceAt : List ℕ → ℤ → ℤ → ℤ
 convergenceAt s xp y = convergence (mAt s (natAbs y)) xp
 
--- "convergence and scale 12, 13", on a sheet that passes; "k is read at |x′|".
+-- The grid at the point: "k is read at |x′|".
+unfoldable pub gridAt : List ℕ → ℤ → ℤ → Grid
+gridAt s xp y = grid 0 (convergenceAt s xp y) (kAt s (natAbs xp))
+
+-- "convergence and scale 12, 13", on a sheet that passes
 unfoldable pub gridOf : List ℕ → ℤ → ℤ → Grid
 gridOf s x y =
     need (scaleKnown s (xPrime s x)) (noGrid 12)
     (need (northingKnown s y) (noGrid 13)
-    (grid 0 (convergenceAt s (xPrime s x) y) (kAt s (natAbs (xPrime s x)))))
+    (gridAt s (xPrime s x) y))
 
 unfoldable pub convergenceAndScale : List ℕ → ℤ → ℤ → Grid
 convergenceAndScale s x y = afterCheck (λ r. r .number) noGrid s (gridOf s x y)

@@ -45,12 +45,16 @@ sizeOf s x t = sizeOfL x (aAt s t) (bAt s (approximateOf s x t)) (hAt s t)
 unfoldable pub longitudeOf : List ℕ → ℤ → ℕ → ℤ
 longitudeOf s xp t = centralMeridian s -ℤ withSign xp (sizeOf s (natAbs xp) t)
 
--- "inverse 12, 13, 14, 11", on a sheet that passes; 11: "the size of L (.. approximate or final) above the last kind 3 row".
+-- The point on the earth.
+unfoldable pub geographicAt : List ℕ → ℤ → ℕ → Geographic
+geographicAt s xp t = geographic 0 (firstLatitude s +ℤ pos t) (longitudeOf s xp t)
+
+-- "inverse 12, 13, 14, 11", on a sheet that passes, the last first. 11: "the size of L (.. approximate or final) above the last kind 3 row".
 unfoldable pub fromDistance : List ℕ → ℤ → ℕ → Geographic
 fromDistance s xp t =
     need (sizeKnown s (pos (approximateOf s (natAbs xp) t))) (noGeographic 11)
     (need (sizeKnown s (sizeOf s (natAbs xp) t)) (noGeographic 11)
-    (geographic 0 (firstLatitude s +ℤ pos t) (longitudeOf s xp t)))
+    (geographicAt s xp t))
 
 unfoldable pub fromReduced : List ℕ → ℤ → ℤ → Geographic
 fromReduced s xp reduced = need (reducedKnown s reduced) (noGeographic 14) (fromDistance s xp (distanceOf s reduced))

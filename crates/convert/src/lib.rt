@@ -4,14 +4,16 @@ use contents::Places;
 ghost use mathlib.Core.Path.{_≡_};
 ghost use mathlib.Core.Bool.{true};
 ghost use Prim.Native.Nat.{_-_, _*_, _^_, _<_, _≤_};
-ghost use lib.IntN.{pos, natAbs};
+ghost use lib.IntN.{pos, natAbs, _-ℤ_};
+ghost use lib.Signed.{leZ};
+ghost use Rattle.figures.specs.Ranges.{mostGap};
 ghost use Rattle.contents.specs.Layout.{latitude, longitude, northing, easting, scale, stepOf};
 ghost use Rattle.contents.specs.Entries.{rowsOf, placesOf};
 ghost use Rattle.bodies.specs.Check.{checkOf};
-ghost use Rattle.extent.specs.Extent.{latitudeKnown, longitudeKnown, sizeKnown, eastingKnown, northingKnown, reducedKnown};
+ghost use Rattle.extent.specs.Extent.{latitudeKnown, longitudeKnown, sizeKnown, eastingKnown, northingKnown, scaleKnown, reducedKnown};
 ghost use Rattle.convert.specs.Forward.{xSize, xOf, yOf, planeAt, geographicToPlane};
-ghost use Rattle.convert.specs.Inverse.{reducedNorthing, rowOf, secondsPast, distanceOf, approximateOf, sizeOf, fromDistance, planeToGeographic};
-ghost use Rattle.convert.specs.Grid.{convergenceAndScale};
+ghost use Rattle.convert.specs.Inverse.{reducedNorthing, rowOf, secondsPast, distanceOf, approximateOf, sizeOf, geographicAt, fromDistance, fromReduced, planeToGeographic};
+ghost use Rattle.convert.specs.Grid.{gridAt, convergenceAndScale};
 
 // A point on the plane: x and y in 0.01 ft. A refusal has its number and zeros.
 pub struct Plane {
@@ -127,6 +129,14 @@ fn reduced_northing(s: &[u8], p: Places, x: u64, y: i32) -> i64
     north - figures::reduction(big_p, x, d)
 }
 
+// How far high stands above low, both northings in 0.01 ft.
+fn above(low: i64, high: i64) -> u64
+    requires { ⌜ (natAbs low ≤ mostGap) × (natAbs high ≤ mostGap) × (leZ low high ≡ true) ⌝ }
+    ensures { λ r. ⌜ r ≡ natAbs (high -ℤ low) ⌝ }
+{
+    (high - low) as u64
+}
+
 // The seconds of the reduced northing past its row, in 0.001″.
 fn seconds_past(s: &[u8], p: Places, reduced: i64, row: usize) -> u64
     requires { ⌜ (checkOf (now s) .number ≡ 0) × (p ≡ placesOf (now s)) × (reducedKnown (now s) reduced ≡ true) × (row ≡ rowOf (now s) reduced) ⌝ }
@@ -137,8 +147,8 @@ fn seconds_past(s: &[u8], p: Places, reduced: i64, row: usize) -> u64
         let next = tables::y0_of(s, p, row + 1);
         figures::seconds(
             contents::step_of(contents::LATITUDE),
-            (reduced - y0) as u64,
-            (next - y0) as u64,
+            above(y0, reduced),
+            above(y0, next),
         )
     } else {
         0
@@ -173,7 +183,19 @@ fn size_of(s: &[u8], p: Places, x: u64, t: u64, approximate: u64) -> i64
     figures::size_of_l(x, a, b, h)
 }
 
-// Latitude and longitude, from x′ and the latitude's distance t from row 0.
+// The point on the earth, of x′, the latitude's distance t from row 0 and the size of L, which is within its table.
+fn geographic_at(s: &[u8], p: Places, xp: i64, t: u64, size: i64) -> Geographic
+    requires { ⌜ (checkOf (now s) .number ≡ 0) × (p ≡ placesOf (now s)) × (t ≤ (rowsOf (now s) latitude - 1) * stepOf latitude) × (size ≡ sizeOf (now s) (natAbs xp) t) × (sizeKnown (now s) size ≡ true) ⌝ }
+    ensures { λ r. ⌜ r ≡ geographicAt (now (s .entry)) xp t ⌝ }
+{
+    Geographic {
+        number: 0,
+        latitude: (tables::first_latitude(s, p) + (t as i64)) as i32,
+        longitude: (tables::central_meridian(s, p) - figures::with_sign(xp, size)) as i32,
+    }
+}
+
+// 11, or the point on the earth, from x′ and the latitude's distance t from row 0.
 fn from_distance(s: &[u8], p: Places, xp: i64, t: u64) -> Geographic
     requires { ⌜ (checkOf (now s) .number ≡ 0) × (p ≡ placesOf (now s)) × (eastingKnown (now s) xp ≡ true) × (t ≤ (rowsOf (now s) latitude - 1) * stepOf latitude) ⌝ }
     ensures { λ r. ⌜ r ≡ fromDistance (now (s .entry)) xp t ⌝ }
@@ -195,11 +217,22 @@ fn from_distance(s: &[u8], p: Places, xp: i64, t: u64) -> Geographic
             longitude: 0,
         };
     }
-    Geographic {
-        number: 0,
-        latitude: (tables::first_latitude(s, p) + (t as i64)) as i32,
-        longitude: (tables::central_meridian(s, p) - figures::with_sign(xp, size)) as i32,
+    geographic_at(s, p, xp, t, size)
+}
+
+// 14, 11, or the point on the earth, from x′ and the reduced northing.
+fn from_reduced(s: &[u8], p: Places, xp: i64, reduced: i64) -> Geographic
+    requires { ⌜ (checkOf (now s) .number ≡ 0) × (p ≡ placesOf (now s)) × (eastingKnown (now s) xp ≡ true) × (natAbs reduced < 2 ^ 62) ⌝ }
+    ensures { λ r. ⌜ r ≡ fromReduced (now (s .entry)) xp reduced ⌝ }
+{
+    if !extent::reduced_known(s, p, reduced) {
+        return Geographic {
+            number: 14,
+            latitude: 0,
+            longitude: 0,
+        };
     }
+    from_distance(s, p, xp, distance_of(s, p, reduced))
 }
 
 // Plane to geographic, on a sheet known to pass, with its places.
@@ -222,15 +255,7 @@ pub fn inverse(s: &[u8], p: Places, x: i32, y: i32) -> Geographic
             longitude: 0,
         };
     }
-    let reduced = reduced_northing(s, p, figures::size(xp), y);
-    if !extent::reduced_known(s, p, reduced) {
-        return Geographic {
-            number: 14,
-            latitude: 0,
-            longitude: 0,
-        };
-    }
-    from_distance(s, p, xp, distance_of(s, p, reduced))
+    from_reduced(s, p, xp, reduced_northing(s, p, figures::size(xp), y))
 }
 
 // Plane to geographic: the check's number, 12, 13, 14, 11, or latitude and longitude.
@@ -250,8 +275,22 @@ pub fn plane_to_geographic(sheet: &[u8], x: i32, y: i32) -> Geographic
 
 // ---- convergence and scale
 
+// The grid at a point within the tables.
+fn grid_at(s: &[u8], p: Places, xp: i64, y: i32) -> Grid
+    requires { ⌜ (checkOf (now s) .number ≡ 0) × (p ≡ placesOf (now s)) × (scaleKnown (now s) xp ≡ true) × (northingKnown (now s) y ≡ true) ⌝ }
+    ensures { λ r. ⌜ r ≡ gridAt (now (s .entry)) xp y ⌝ }
+{
+    let m = tables::m_at(s, p, (y as i64) as u64);
+    let k = tables::k_at(s, p, figures::size(xp));
+    Grid {
+        number: 0,
+        convergence: figures::convergence(m, xp) as i32,
+        scale: k as i32,
+    }
+}
+
 // Convergence and scale, on a sheet known to pass, with its places.
-pub fn grid_at(s: &[u8], p: Places, x: i32, y: i32) -> Grid
+pub fn convergence(s: &[u8], p: Places, x: i32, y: i32) -> Grid
     requires { ⌜ (checkOf (now s) .number ≡ 0) × (p ≡ placesOf (now s)) ⌝ }
     ensures { λ r. ⌜ r ≡ convergenceAndScale (now (s .entry)) x y ⌝ }
 {
@@ -270,13 +309,7 @@ pub fn grid_at(s: &[u8], p: Places, x: i32, y: i32) -> Grid
             scale: 0,
         };
     }
-    let m = tables::m_at(s, p, (y as i64) as u64);
-    let k = tables::k_at(s, p, figures::size(xp));
-    Grid {
-        number: 0,
-        convergence: figures::convergence(m, xp) as i32,
-        scale: k as i32,
-    }
+    grid_at(s, p, xp, y)
 }
 
 // Convergence and scale: the check's number, 12, 13, or Δα and k.
@@ -291,5 +324,5 @@ pub fn convergence_and_scale(sheet: &[u8], x: i32, y: i32) -> Grid
             scale: 0,
         };
     }
-    grid_at(sheet, contents::places_of(sheet), x, y)
+    convergence(sheet, contents::places_of(sheet), x, y)
 }

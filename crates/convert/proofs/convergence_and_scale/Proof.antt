@@ -17,7 +17,7 @@ returns-2 c =
     let start = c .before .before .before .before .before in
     let one : toZ w32 (ofZ w32 (start .args .x)) ≡ start .args .x = search needs in
     let two : toZ w32 (ofZ w32 (start .args .y)) ≡ start .args .y = search needs in
-    c .grid-at .ensures ∙ both-same (convergenceAndScale _) one two
+    c .convergence .ensures ∙ both-same (convergenceAndScale _) one two
 
 check-requires : tie.Need-check-requires
 check-requires c κs = search needs
@@ -25,9 +25,9 @@ check-requires c κs = search needs
 places-of-requires : tie.Need-places-of-requires
 places-of-requires c κs = sheet-long _ (sym (ap (λ v. v .number) (c .before .check .ensures)) ∙ c .if1 .left)
 
-grid-at-requires : tie.Need-grid-at-requires
-grid-at-requires c κs = (sym (ap (λ v. v .number) (c .before .before .check .ensures)) ∙ c .before .if1 .left, c .places-of .ensures)
+convergence-requires : tie.Need-convergence-requires
+convergence-requires c κs = (sym (ap (λ v. v .number) (c .before .before .check .ensures)) ∙ c .before .if1 .left, c .places-of .ensures)
 
 pub convergence-and-scale-spec : {M : Type 1} → statement M
 convergence-and-scale-spec =
-    tie.close (tie.spec check-requires returns places-of-requires grid-at-requires returns-2)
+    tie.close (tie.spec check-requires returns places-of-requires convergence-requires returns-2)

@@ -1,35 +1,60 @@
+-- `convert::distance_of` meets its contract. Assumes nothing.
+use mathlib.Core.Path.{_≡_, ap, _∙_}
+use denote.Ref.{now}
+use mir.Syntax.{w64}
+use mir.Val.{toZ, ofZ}
+use Rattle.reading.specs.Rows.{lastNotAbove}
+use Rattle.tables.proofs.ByName.{latitude-place}
+use Rattle.extent.proofs.Reach.{reduced-reach}
+use Rattle.convert.specs.Inverse.{rowOf, secondsPast}
+use Rattle.convert.proofs.Distances.{distance-are, distance-known, distance-fits, row-step-fits}
 use borrow.Author.Needs.{needs}
 use Rattle.convert.proofs.distance_of.Statement.{statement}
 use Rattle.convert.proofs.distance_of.Tie as tie
-use Rattle.convert.proofs.distance_of.Reads as reads
-use Rattle.convert.proofs.distance_of.Lts as lts
-use Rattle.contents.proofs.step_of.Reads as step-of-reads
-use Rattle.convert.proofs.seconds_past.Reads as seconds-past-reads
-use Rattle.tables.proofs.row_of.Reads as row-of-reads
 
--- src/lib.rt:145:9
+reduced-is : (c : tie.Start) → toZ w64 (ofZ w64 (c .args .reduced)) ≡ c .args .reduced
+reduced-is c = search needs
+
+row-is : (c : tie.After-row-of) → c .row-of .result ≡ rowOf (now (c .before .before .args .s)) (c .before .before .args .reduced)
+unfolding rowOf
+row-is c = c .row-of .ensures .0 ∙ ap (lastNotAbove _ _) (reduced-is (c .before .before))
+
+seconds-is : (c : tie.After-seconds-past)
+    → let args = c .before .before .before .before .args in c .seconds-past .result ≡ secondsPast (now (args .s)) (args .reduced) (c .before .before .row-of .result)
+seconds-is c = c .seconds-past .ensures ∙ rw (reduced-is (c .before .before .before .before))
+
+returns : tie.Need-returns
+returns c =
+    let p = c .before .before .before .before .pre in
+    let row = row-is (c .before .before) in (
+      distance-are _ (p .0) _ (p .2) _ row _ _ (c .before .step-of .ensures) (seconds-is c),
+      distance-known _ (p .0) _ (p .2) _ row _ _ (c .before .step-of .ensures) (seconds-is c),
+    )
+
 row-of-requires : tie.Need-row-of-requires
-row-of-requires c κs = ?
+row-of-requires c κs =
+    let start = c .before in
+    let p = start .pre in
+    (p .0, latitude-place _ _ (p .1), rw (reduced-is start) (reduced-reach _ _ (p .2) .0), rw (reduced-is start) (p .3))
 
--- src/lib.rt:146:20
 step-of-requires : tie.Need-step-of-requires
 step-of-requires c κs = search needs
 
--- src/lib.rt:146:5
 mul-result : tie.Need-mul-result
-mul-result c = ?
+mul-result c =
+    let p = c .before .before .before .pre in
+    row-step-fits _ (p .0) _ (p .2) _ (row-is (c .before)) _ (c .step-of .ensures)
 
--- src/lib.rt:146:60
 seconds-past-requires : tie.Need-seconds-past-requires
-seconds-past-requires c κs = ?
+seconds-past-requires c κs =
+    let start = c .before .before .before in
+    let p = start .pre in
+    (p .0, p .1, rw (reduced-is start) (p .2), rw (reduced-is start) (row-is (c .before)))
 
--- src/lib.rt:146:5
 add-result : tie.Need-add-result
-add-result c = ?
-
--- src/lib.rt:141:1
-returns : tie.Need-returns
-returns c = ?
+add-result c =
+    let p = c .before .before .before .before .pre in
+    distance-fits _ (p .0) _ (p .2) _ (row-is (c .before .before)) _ _ (c .before .step-of .ensures) (seconds-is c)
 
 pub distance-of-spec : {M : Type 1} → statement M
 distance-of-spec =

@@ -1,83 +1,98 @@
+-- `convert::from_distance` meets its contract. Assumes nothing.
+use mathlib.Core.Path.{_≡_, ap, _∙_}
+use native.Mathlib.Nat.{le-trans}
+use lib.Dec.{lit≤}
+use lib.IntN.{pos, natAbs}
+use denote.Ref.{now}
+use mir.Syntax.{w64}
+use mir.Val.{toZ, ofZ}
+use Rattle.figures.proofs.Holds.{held-size}
+use Rattle.words.proofs.Refusals.{stop, go, kept}
+use Rattle.extent.specs.Extent.{sizeKnown}
+use Rattle.extent.proofs.Reach.{easting-reach, easting-span}
+use Rattle.extent.proofs.Points.{size-small}
+use Rattle.convert.specs.Inverse.{approximateOf, sizeOf, fromDistance}
+use Rattle.convert.proofs.Bits.{bits-is}
 use borrow.Author.Needs.{needs}
 use Rattle.convert.proofs.from_distance.Statement.{statement}
 use Rattle.convert.proofs.from_distance.Tie as tie
-use Rattle.convert.proofs.from_distance.Reads as reads
-use Rattle.convert.proofs.from_distance.Lts as lts
-use Rattle.convert.proofs.approximate_of.Reads as approximate-of-reads
-use Rattle.convert.proofs.size_of.Reads as size-of-reads
-use Rattle.extent.proofs.size_known.Reads as size-known-reads
-use Rattle.figures.proofs.size.Reads as size-reads
-use Rattle.figures.proofs.with_sign.Reads as with-sign-reads
-use Rattle.tables.proofs.central_meridian.Reads as central-meridian-reads
-use Rattle.tables.proofs.first_latitude.Reads as first-latitude-reads
 
--- src/lib.rt:173:9
+-- the size of x′, approximate L and the size of L, as they were worked
+xp-is : (c : tie.Start) → toZ w64 (ofZ w64 (c .args .xp)) ≡ c .args .xp
+xp-is c = search needs
+
+x-is : (c : tie.After-size) → c .size .result ≡ natAbs (c .before .before .args .xp)
+x-is c = c .size .ensures ∙ ap natAbs (xp-is (c .before .before))
+
+approximate-is : (c : tie.After-approximate-of) → let args = c .before .before .before .args in c .approximate-of .result ≡ approximateOf (now (args .s)) (natAbs (args .xp)) (args .t)
+approximate-is c = c .approximate-of .ensures .0 ∙ rw (x-is (c .before))
+
+-- the tests of both
+first-known : (c : tie.After-size-known)
+    → let args = c .before .before .before .before .args in c .size-known .result ≡ sizeKnown (now (args .s)) (pos (approximateOf (now (args .s)) (natAbs (args .xp)) (args .t)))
+first-known c =
+    let same = held-size w64 (c .before .approximate-of .ensures .1) tt .is ∙ ap pos (approximate-is (c .before)) in
+    c .size-known .ensures ∙ ap (sizeKnown _) same
+
+size-is : (c : tie.After-size-of)
+    → let args = c .before .before .before .before .before .before .args in c .size-of .result ≡ sizeOf (now (args .s)) (natAbs (args .xp)) (args .t)
+size-is c = c .size-of .ensures ∙ rw (x-is (c .before .before .before .before))
+
+second-known : (c : tie.After-size-known2)
+    → let args = c .before .before .before .before .before .before .before .args in c .size-known2 .result ≡ sizeKnown (now (args .s)) (sizeOf (now (args .s)) (natAbs (args .xp)) (args .t))
+second-known c = c .size-known2 .ensures ∙ ap (sizeKnown _) (bits-is (c .before .size-of .ok) ∙ size-is (c .before))
+
+returns : tie.Need-returns
+unfolding fromDistance
+returns c = stop _ _ _ _ (first-known (c .before)) (c .if1 .taken)
+
+returns-2 : tie.Need-returns-2
+unfolding fromDistance
+returns-2 c =
+    go _ _ _ _ _ (first-known (c .before .before .before .before)) (c .before .before .before .if1 .left)
+    (stop _ _ _ _ (second-known (c .before)) (c .if2 .taken))
+
+returns-3 : tie.Need-returns-3
+unfolding fromDistance
+returns-3 c =
+    let start = c .before .before .before .before .before .before .before .before .before in
+    go _ _ _ _ _ (first-known (c .before .before .before .before .before)) (c .before .before .before .before .if1 .left)
+    (go _ _ _ _ _ (second-known (c .before .before)) (c .before .if2 .left)
+    (c .geographic-at .ensures ∙ rw (xp-is start)))
+
 size-requires : tie.Need-size-requires
-size-requires c κs = ?
+size-requires c κs =
+    let xp : toZ w64 (ofZ w64 (c .before .args .xp)) ≡ c .before .args .xp = search needs in
+    let p = c .before .pre in
+    size-small xp (le-trans (easting-reach _ _ (p .2)) (le-trans (easting-span _ (p .0)) (lit≤ tt)))
 
--- src/lib.rt:174:9
 approximate-of-requires : tie.Need-approximate-of-requires
-approximate-of-requires c κs = ?
+approximate-of-requires c κs =
+    let p = c .before .before .pre in
+    (p .0, p .1, rw (x-is c) (easting-reach _ _ (p .2)), p .3)
 
--- src/lib.rt:175:34
 cast-size-known : tie.Need-cast-size-known
 cast-size-known c = search needs
 
--- src/lib.rt:175:9
 size-known-requires : tie.Need-size-known-requires
 size-known-requires c κs = search needs
 
--- src/lib.rt:176:9
-returns : tie.Need-returns
-returns c = ?
-
--- src/lib.rt:182:9
 size-of-requires : tie.Need-size-of-requires
-size-of-requires c κs = ?
+size-of-requires c κs =
+    let p = c .before .before .before .before .before .pre in
+    let approximate = c .before .before .approximate-of in
+    let known = rw (held-size w64 (approximate .ensures .1) tt .is) at (kept _ _ (c .before .size-known .ensures) (c .if1 .left)) in
+    (p .0, p .1, rw (x-is (c .before .before .before)) (easting-reach _ _ (p .2)), p .3, approximate .ensures .0, known)
 
--- src/lib.rt:183:9
 size-known-requires-2 : tie.Need-size-known-requires-2
 size-known-requires-2 c κs = search needs
 
--- src/lib.rt:184:9
-returns-2 : tie.Need-returns-2
-returns-2 c = ?
-
--- src/lib.rt:192:20
-first-latitude-requires : tie.Need-first-latitude-requires
-first-latitude-requires c κs = search needs
-
--- src/lib.rt:192:52
-cast-t11 : tie.Need-cast-t11
-cast-t11 c = ?
-
--- src/lib.rt:192:20
-add-t12 : tie.Need-add-t12
-add-t12 c = ?
-
--- src/lib.rt:192:19
-cast-t13 : tie.Need-cast-t13
-cast-t13 c = ?
-
--- src/lib.rt:193:21
-central-meridian-requires : tie.Need-central-meridian-requires
-central-meridian-requires c κs = search needs
-
--- src/lib.rt:193:54
-with-sign-requires : tie.Need-with-sign-requires
-with-sign-requires c κs = ?
-
--- src/lib.rt:193:21
-sub-t16 : tie.Need-sub-t16
-sub-t16 c = ?
-
--- src/lib.rt:193:20
-cast-t17 : tie.Need-cast-t17
-cast-t17 c = ?
-
--- src/lib.rt:169:1
-returns-3 : tie.Need-returns-3
-returns-3 c = ?
+geographic-at-requires : tie.Need-geographic-at-requires
+geographic-at-requires c κs =
+    let start = c .before .before .before .before .before .before .before .before in
+    let p = start .pre in
+    let size = c .before .before in
+    (p .0, p .1, p .3, rw (xp-is start, bits-is (size .size-of .ok)) (size-is size), kept _ _ (c .before .size-known2 .ensures) (c .if2 .left))
 
 pub from-distance-spec : {M : Type 1} → statement M
 from-distance-spec =
@@ -91,12 +106,5 @@ from-distance-spec =
     size-of-requires
     size-known-requires-2
     returns-2
-    first-latitude-requires
-    cast-t11
-    add-t12
-    cast-t13
-    central-meridian-requires
-    with-sign-requires
-    sub-t16
-    cast-t17
+    geographic-at-requires
     returns-3)

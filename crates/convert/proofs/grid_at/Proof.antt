@@ -1,87 +1,89 @@
+-- `convert::grid_at` meets its contract. Assumes nothing.
+use mathlib.Core.Path.{_≡_, refl, ap, _∙_}
+use native.Mathlib.Nat.{le-trans}
+use lib.Dec.{lit≤}
+use lib.IntN.{natAbs}
+use denote.Ref.{now}
+use mir.Syntax.{w64}
+use mir.Val.{toZ, ofZ}
+use Rattle.figures.proofs.Sizes.{size-nonNeg}
+use Rattle.figures.proofs.Holds.{Holds, unsigned-fits, cast, cast-fits}
+use Rattle.tables.specs.Figures.{kAt}
+use Rattle.extent.proofs.Reach.{northing-reach, scale-reach}
+use Rattle.extent.proofs.Points.{wide, wide-fits, size-small}
+use Rattle.convert.specs.Grid.{convergenceAt}
+use Rattle.convert.proofs.Convergences.{convergence-worked, grid-worked, xp-most, convergence-small}
+use Rattle.convert.proofs.Bits.{bits-hold}
 use borrow.Author.Needs.{needs}
 use Rattle.convert.proofs.grid_at.Statement.{statement}
 use Rattle.convert.proofs.grid_at.Tie as tie
-use Rattle.convert.proofs.grid_at.Reads as reads
-use Rattle.convert.proofs.grid_at.Lts as lts
-use Rattle.extent.proofs.northing_known.Reads as northing-known-reads
-use Rattle.extent.proofs.scale_known.Reads as scale-known-reads
-use Rattle.extent.proofs.x_prime.Reads as x-prime-reads
-use Rattle.figures.proofs.convergence.Reads as convergence-reads
-use Rattle.figures.proofs.size.Reads as size-reads
-use Rattle.tables.proofs.k_at.Reads as k-at-reads
-use Rattle.tables.proofs.m_at.Reads as m-at-reads
 
--- src/lib.rt:250:9
-x-prime-requires : tie.Need-x-prime-requires
-x-prime-requires c κs = search needs
+xp-is : (c : tie.Start) → toZ w64 (ofZ w64 (c .args .xp)) ≡ c .args .xp
+xp-is c = search needs
 
--- src/lib.rt:251:9
-scale-known-requires : tie.Need-scale-known-requires
-scale-known-requires c κs = search needs
+-- the size of x′, Δα and k, as they were worked
+size-is : (c : tie.After-size) → c .size .result ≡ natAbs (c .before .before .before .args .xp)
+size-is c = c .size .ensures ∙ ap natAbs (xp-is (c .before .before .before))
 
--- src/lib.rt:252:9
+k-is : (c : tie.After-k-at) → let args = c .before .before .before .before .args in Holds w64 (ofZ w64 (c .k-at .result)) (kAt (now (args .s)) (natAbs (args .xp))) 10_010_000
+k-is c =
+    let same = c .k-at .ensures .0 ∙ ap (kAt _) (size-is (c .before)) in
+    bits-hold (c .k-at .ok) same (rw same at (c .k-at .ensures .1))
+
+alpha-is : (c : tie.After-convergence)
+    → let args = c .before .before .before .before .before .args in
+    Holds w64 (ofZ w64 (c .convergence .result)) (convergenceAt (now (args .s)) (args .xp) (args .y)) 21_474_837
+alpha-is c =
+    let start = c .before .before .before .before .before in
+    let p = start .pre in
+    let worked = convergence-worked _ _ _ (xp-is start) (wide (start .fits .y) .is) (c .before .before .before .m-at .ensures .0) in
+    bits-hold (c .convergence .ok) (c .convergence .ensures ∙ worked) (convergence-small _ _ _ (p .0) (p .2) (p .3))
+
 returns : tie.Need-returns
-returns c = ?
+returns c = grid-worked _ _ _ (cast (alpha-is c) tt .is) refl (cast (k-is (c .before)) tt .is) refl
 
--- src/lib.rt:258:9
-northing-known-requires : tie.Need-northing-known-requires
-northing-known-requires c κs = search needs
-
--- src/lib.rt:259:9
-returns-2 : tie.Need-returns-2
-returns-2 c = ?
-
--- src/lib.rt:265:33
 cast-m-at : tie.Need-cast-m-at
-cast-m-at c = ?
+cast-m-at c = wide-fits (c .before .fits .y)
 
--- src/lib.rt:265:32
 cast-m-at-2 : tie.Need-cast-m-at-2
-cast-m-at-2 c = ?
+cast-m-at-2 c = unsigned-fits (wide (c .before .fits .y)) (size-nonNeg (northing-reach _ _ (c .before .pre .3))) tt
 
--- src/lib.rt:265:9
 m-at-requires : tie.Need-m-at-requires
-m-at-requires c κs = ?
+m-at-requires c κs =
+    let p = c .before .pre in
+    (p .0, p .1, rw (wide (c .before .fits .y) .is) (northing-reach _ _ (p .3) .high))
 
--- src/lib.rt:266:32
 size-requires : tie.Need-size-requires
-size-requires c κs = ?
+size-requires c κs =
+    let start = c .before .before in
+    size-small (xp-is start) (le-trans (xp-most _ _ (start .args .y) (start .pre .0) (start .pre .2)) (lit≤ tt))
 
--- src/lib.rt:266:9
 k-at-requires : tie.Need-k-at-requires
-k-at-requires c κs = ?
+k-at-requires c κs =
+    let p = c .before .before .before .pre in
+    (p .0, p .1, rw (size-is c) (scale-reach _ _ (p .2)))
 
--- src/lib.rt:269:22
 convergence-requires : tie.Need-convergence-requires
-convergence-requires c κs = ?
+convergence-requires c κs =
+    let start = c .before .before .before .before in
+    (c .before .before .m-at .ensures .1, rw (xp-is start) (le-trans (xp-most _ _ (start .args .y) (start .pre .0) (start .pre .2)) (lit≤ tt)))
 
--- src/lib.rt:269:22
-cast-t12 : tie.Need-cast-t12
-cast-t12 c = ?
+cast-t9 : tie.Need-cast-t9
+cast-t9 c = cast-fits (alpha-is c) tt
 
--- src/lib.rt:270:16
-cast-t13 : tie.Need-cast-t13
-cast-t13 c = ?
-
--- src/lib.rt:246:1
-returns-3 : tie.Need-returns-3
-returns-3 c = ?
+cast-t10 : tie.Need-cast-t10
+cast-t10 c = cast-fits (k-is (c .before)) tt
 
 pub grid-at-spec : {M : Type 1} → statement M
 grid-at-spec =
     tie.close
     (tie.spec
-    x-prime-requires
-    scale-known-requires
-    returns
-    northing-known-requires
-    returns-2
     cast-m-at
     cast-m-at-2
     m-at-requires
     size-requires
     k-at-requires
     convergence-requires
-    cast-t12
-    cast-t13
-    returns-3)
+    cast-t9
+    cast-t10
+    returns)

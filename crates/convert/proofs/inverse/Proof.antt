@@ -1,64 +1,84 @@
+-- `convert::inverse` meets its contract. Assumes nothing.
+use mathlib.Core.Path.{_≡_, ap, _∙_}
+use lib.IntN.{natAbs}
+use denote.Ref.{now}
+use mir.Syntax.{w32, w64}
+use mir.Val.{toZ, ofZ}
+use Rattle.words.proofs.Refusals.{stop, go, kept}
+use Rattle.extent.specs.Extent.{xPrime, eastingKnown, northingKnown}
+use Rattle.extent.proofs.Reach.{easting-reach}
+use Rattle.convert.specs.Inverse.{reducedNorthing, fromReduced, inverseOf}
+use Rattle.convert.proofs.Checked.{inverse-passes}
+use Rattle.convert.proofs.Bits.{bits-is, bits-below, both-same}
 use borrow.Author.Needs.{needs}
 use Rattle.convert.proofs.inverse.Statement.{statement}
 use Rattle.convert.proofs.inverse.Tie as tie
-use Rattle.convert.proofs.inverse.Reads as reads
-use Rattle.convert.proofs.inverse.Lts as lts
-use Rattle.convert.proofs.distance_of.Reads as distance-of-reads
-use Rattle.convert.proofs.from_distance.Reads as from-distance-reads
-use Rattle.convert.proofs.reduced_northing.Reads as reduced-northing-reads
-use Rattle.extent.proofs.easting_known.Reads as easting-known-reads
-use Rattle.extent.proofs.northing_known.Reads as northing-known-reads
-use Rattle.extent.proofs.reduced_known.Reads as reduced-known-reads
-use Rattle.extent.proofs.x_prime.Reads as x-prime-reads
-use Rattle.figures.proofs.size.Reads as size-reads
 
--- src/lib.rt:202:9
+-- x′, and the tests, of the point itself
+x-is : (c : tie.Start) → toZ w32 (ofZ w32 (c .args .x)) ≡ c .args .x
+x-is c = search needs
+
+y-is : (c : tie.Start) → toZ w32 (ofZ w32 (c .args .y)) ≡ c .args .y
+y-is c = search needs
+
+xp-is : (c : tie.After-x-prime) → toZ w64 (ofZ w64 (c .x-prime .result)) ≡ xPrime (now (c .before .before .args .s)) (c .before .before .args .x)
+xp-is c = bits-is (c .x-prime .ok) ∙ c .x-prime .ensures .0 ∙ ap (xPrime _) (x-is (c .before .before))
+
+easting-known-is : (c : tie.After-easting-known) → let args = c .before .before .before .args in c .easting-known .result ≡ eastingKnown (now (args .s)) (xPrime (now (args .s)) (args .x))
+easting-known-is c = c .easting-known .ensures ∙ ap (eastingKnown _) (xp-is (c .before))
+
+northing-is : (c : tie.After-northing-known) → let args = c .before .before .before .before .before .args in c .northing-known .result ≡ northingKnown (now (args .s)) (args .y)
+northing-is c = c .northing-known .ensures ∙ ap (northingKnown _) (y-is (c .before .before .before .before .before))
+
+reduced-is : (c : tie.After-reduced-northing)
+    → let args = c .before .before .before .before .before .before .before .before .args in
+    toZ w64 (ofZ w64 (c .reduced-northing .result)) ≡ reducedNorthing (now (args .s)) (natAbs (xPrime (now (args .s)) (args .x))) (args .y)
+reduced-is c =
+    let size = c .before .size .ensures ∙ ap natAbs (xp-is (c .before .before .before .before .before .before)) in
+    bits-is (c .reduced-northing .ok) ∙ c .reduced-northing .ensures .0 ∙ rw (size, y-is (c .before .before .before .before .before .before .before .before))
+
+returns : tie.Need-returns
+unfolding inverseOf
+returns c = inverse-passes _ _ _ _ (c .before .before .before .before .pre .0) (stop _ _ _ _ (easting-known-is (c .before)) (c .if1 .taken))
+
+returns-2 : tie.Need-returns-2
+unfolding inverseOf
+returns-2 c =
+    inverse-passes _ _ _ _ (c .before .before .before .before .before .before .pre .0)
+    (go _ _ _ _ _ (easting-known-is (c .before .before .before)) (c .before .before .if1 .left) (stop _ _ _ _ (northing-is (c .before)) (c .if2 .taken)))
+
+returns-3 : tie.Need-returns-3
+unfolding inverseOf
+returns-3 c =
+    let found = c .before in
+    inverse-passes _ _ _ _ (found .before .before .before .before .before .before .before .before .pre .0)
+    (go _ _ _ _ _ (easting-known-is (found .before .before .before .before .before)) (found .before .before .before .before .if1 .left)
+    (go _ _ _ _ _ (northing-is (found .before .before .before)) (found .before .before .if2 .left)
+    (c .from-reduced .ensures ∙ both-same (fromReduced _) (xp-is (found .before .before .before .before .before .before)) (reduced-is found))))
+
 x-prime-requires : tie.Need-x-prime-requires
 x-prime-requires c κs = search needs
 
--- src/lib.rt:203:9
 easting-known-requires : tie.Need-easting-known-requires
 easting-known-requires c κs = search needs
 
--- src/lib.rt:204:9
-returns : tie.Need-returns
-returns c = ?
-
--- src/lib.rt:210:9
 northing-known-requires : tie.Need-northing-known-requires
 northing-known-requires c κs = search needs
 
--- src/lib.rt:211:9
-returns-2 : tie.Need-returns-2
-returns-2 c = ?
-
--- src/lib.rt:217:42
 size-requires : tie.Need-size-requires
-size-requires c κs = ?
+size-requires c κs = let xp = c .before .before .before .before .x-prime in bits-below (xp .result) (xp .ok) (xp .ensures .1) tt
 
--- src/lib.rt:217:9
 reduced-northing-requires : tie.Need-reduced-northing-requires
-reduced-northing-requires c κs = ?
+reduced-northing-requires c κs =
+    let p = c .before .before .before .before .before .before .before .pre in
+    let easting = kept _ _ (c .before .before .before .before .easting-known .ensures) (c .before .before .before .if1 .left) in
+    (p .0, p .1, rw (c .size .ensures) (easting-reach _ _ easting), kept _ _ (c .before .before .northing-known .ensures) (c .before .if2 .left))
 
--- src/lib.rt:218:9
-reduced-known-requires : tie.Need-reduced-known-requires
-reduced-known-requires c κs = search needs
-
--- src/lib.rt:219:9
-returns-3 : tie.Need-returns-3
-returns-3 c = ?
-
--- src/lib.rt:225:29
-distance-of-requires : tie.Need-distance-of-requires
-distance-of-requires c κs = ?
-
--- src/lib.rt:225:5
-from-distance-requires : tie.Need-from-distance-requires
-from-distance-requires c κs = ?
-
--- src/lib.rt:198:1
-returns-4 : tie.Need-returns-4
-returns-4 c = ?
+from-reduced-requires : tie.Need-from-reduced-requires
+from-reduced-requires c κs =
+    let p = c .before .before .before .before .before .before .before .before .pre in
+    let easting = kept _ _ (c .before .before .before .before .before .easting-known .ensures) (c .before .before .before .before .if1 .left) in
+    (p .0, p .1, easting, rw (bits-is (c .reduced-northing .ok)) (c .reduced-northing .ensures .1))
 
 pub inverse-spec : {M : Type 1} → statement M
 inverse-spec =
@@ -71,8 +91,5 @@ inverse-spec =
     returns-2
     size-requires
     reduced-northing-requires
-    reduced-known-requires
-    returns-3
-    distance-of-requires
-    from-distance-requires
-    returns-4)
+    from-reduced-requires
+    returns-3)

@@ -1,59 +1,94 @@
+-- `convert::seconds_past` meets its contract. Assumes nothing.
+use mathlib.Core.Path.{_≡_}
+use Prim.Native.Nat.{_+_, _<_}
+use native.Mathlib.Nat.{le-trans}
+use lib.Dec.{lit≤}
+use denote.Ref.{now}
+use mir.Syntax.{w64}
+use mir.Val.{toZ, ofZ}
+use Rattle.contents.specs.Layout.{latitude}
+use Rattle.contents.specs.Entries.{rowsOf}
+use Rattle.extent.proofs.Counts.{count-is}
+use Rattle.convert.proofs.Distances.{z-most, row-below, next-fits, above-row, above-next, past-asks, gap-some, gap-asks, seconds-are, no-seconds}
+use Rattle.convert.proofs.Bits.{bits-is, bits-most}
 use borrow.Author.Needs.{needs}
 use Rattle.convert.proofs.seconds_past.Statement.{statement}
 use Rattle.convert.proofs.seconds_past.Tie as tie
-use Rattle.convert.proofs.seconds_past.Reads as reads
-use Rattle.convert.proofs.seconds_past.Lts as lts
-use Rattle.contents.proofs.step_of.Reads as step-of-reads
-use Rattle.figures.proofs.seconds.Reads as seconds-reads
-use Rattle.tables.proofs.y0_of.Reads as y0-of-reads
 
--- src/lib.rt:127:8
+-- the row after it is there
+next-row : (c : tie.Then1) → let args = c .before .before .before .args in args .row + 1 < rowsOf (now (args .s)) latitude
+next-row c = let p = c .before .before .before .pre in rw (count-is _ (p .0) _ (p .1)) at (c .if1 .taken)
+
+reduced-is : (c : tie.Start) → toZ w64 (ofZ w64 (c .args .reduced)) ≡ c .args .reduced
+reduced-is c = search needs
+
+returns : tie.Need-returns
+returns c =
+    let start = c .before .before .before .before .before .before .before .before .before in
+    let p = start .pre in
+    let y0 = c .before .before .before .before .before .y0-of in
+    let next = c .before .before .before .before .y0-of2 in
+    let there = next-row (c .before .before .before .before .before .before) in
+    seconds-are _ (p .0) _ (p .2) _ (p .3) _ _ _ (bits-is (y0 .ok)) (y0 .ensures .0) (reduced-is start) _ _ (bits-is (next .ok)) (next .ensures .0) there _ _
+    (c .before .before .above .ensures) (c .before .above2 .ensures) _ _ (c .before .before .before .step-of .ensures) (c .seconds .ensures)
+
+returns-2 : tie.Need-returns-2
+returns-2 c =
+    let p = c .before .before .before .pre in
+    no-seconds _ (p .0) _ (p .2) _ (p .3) (rw (count-is _ (p .0) _ (p .1)) at (c .if1 .left))
+
 add-if1 : tie.Need-add-if1
-add-if1 c = ?
+add-if1 c = let p = c .before .pre in next-fits _ (p .0) _ (p .2) _ (p .3)
 
--- src/lib.rt:128:13
 y0-of-requires : tie.Need-y0-of-requires
-y0-of-requires c κs = ?
+y0-of-requires c κs =
+    let p = c .before .before .before .pre in
+    (p .0, p .1, row-below _ (p .0) _ (p .2) _ (p .3))
 
--- src/lib.rt:129:40
 add-y0-of : tie.Need-add-y0-of
 add-y0-of c = search needs
 
--- src/lib.rt:129:13
 y0-of-requires-2 : tie.Need-y0-of-requires-2
-y0-of-requires-2 c κs = ?
+y0-of-requires-2 c κs =
+    let p = c .before .before .before .before .pre in
+    (p .0, p .1, next-row (c .before))
 
--- src/lib.rt:131:13
 step-of-requires : tie.Need-step-of-requires
 step-of-requires c κs = search needs
 
--- src/lib.rt:132:14
-sub-seconds : tie.Need-sub-seconds
-sub-seconds c = ?
+above-requires : tie.Need-above-requires
+above-requires c κs =
+    let start = c .before .before .before .before .before .before in
+    let p = start .pre in
+    let y0 = c .before .before .y0-of in (
+      bits-most (y0 .result) (y0 .ok) (le-trans (y0 .ensures .1) (lit≤ tt)),
+      rw (reduced-is start) (z-most _ (p .0) _ (p .2)),
+      above-row _ (p .0) _ (p .2) _ (p .3) _ _ _ (bits-is (y0 .ok)) (y0 .ensures .0) (reduced-is start),
+    )
 
--- src/lib.rt:132:13
-cast-seconds : tie.Need-cast-seconds
-cast-seconds c = ?
+above-requires-2 : tie.Need-above-requires-2
+above-requires-2 c κs =
+    let start = c .before .before .before .before .before .before .before in
+    let p = start .pre in
+    let y0 = c .before .before .before .y0-of in
+    let next = c .before .before .y0-of2 in (
+      bits-most (y0 .result) (y0 .ok) (le-trans (y0 .ensures .1) (lit≤ tt)),
+      bits-most (next .result) (next .ok) (le-trans (next .ensures .1) (lit≤ tt)),
+      above-next _ (p .0) _ (p .2) _ (p .3) _ _ _ (bits-is (y0 .ok)) (y0 .ensures .0) (reduced-is start) _ _ (bits-is (next .ok)) (next .ensures .0) (next-row (c .before .before .before .before)),
+    )
 
--- src/lib.rt:133:14
-sub-seconds-2 : tie.Need-sub-seconds-2
-sub-seconds-2 c = ?
-
--- src/lib.rt:133:13
-cast-seconds-2 : tie.Need-cast-seconds-2
-cast-seconds-2 c = ?
-
--- src/lib.rt:130:9
 seconds-requires : tie.Need-seconds-requires
-seconds-requires c κs = ?
-
--- src/lib.rt:123:1
-returns : tie.Need-returns
-returns c = ?
-
--- src/lib.rt:123:1
-returns-2 : tie.Need-returns-2
-returns-2 c = ?
+seconds-requires c κs =
+    let start = c .before .before .before .before .before .before .before .before in
+    let p = start .pre in
+    let y0 = c .before .before .before .before .y0-of in
+    let next = c .before .before .before .y0-of2 in
+    let there = next-row (c .before .before .before .before .before) in (
+      rw (c .before .before .step-of .ensures) (lit≤ tt),
+      past-asks _ (p .0) _ (p .2) _ (p .3) _ _ _ (bits-is (y0 .ok)) (y0 .ensures .0) (reduced-is start) _ _ (bits-is (next .ok)) (next .ensures .0) there _ _ (c .before .above .ensures) (c .above2 .ensures),
+      gap-some _ (p .0) _ (p .2) _ (p .3) _ _ _ (bits-is (y0 .ok)) (y0 .ensures .0) (reduced-is start) _ _ (bits-is (next .ok)) (next .ensures .0) there _ _ (c .before .above .ensures) (c .above2 .ensures),
+      gap-asks _ (p .0) _ (p .2) _ (p .3) _ _ _ (bits-is (y0 .ok)) (y0 .ensures .0) (reduced-is start) _ _ (bits-is (next .ok)) (next .ensures .0) there _ _ (c .before .above .ensures) (c .above2 .ensures),
+    )
 
 pub seconds-past-spec : {M : Type 1} → statement M
 seconds-past-spec =
@@ -64,10 +99,8 @@ seconds-past-spec =
     add-y0-of
     y0-of-requires-2
     step-of-requires
-    sub-seconds
-    cast-seconds
-    sub-seconds-2
-    cast-seconds-2
+    above-requires
+    above-requires-2
     seconds-requires
     returns
     returns-2)

@@ -1,32 +1,38 @@
+-- `convert::size_of` meets its contract. Assumes nothing.
+use mathlib.Core.Path.{_∙_}
+use native.Mathlib.Omega.{arith}
+use Rattle.extent.proofs.Reach.{size-reach}
+use Rattle.convert.proofs.Longitudes.{x-small, size-worked}
+use Rattle.convert.proofs.Bits.{bits-is, bits-most}
 use borrow.Author.Needs.{needs}
 use Rattle.convert.proofs.size_of.Statement.{statement}
 use Rattle.convert.proofs.size_of.Tie as tie
-use Rattle.convert.proofs.size_of.Reads as reads
-use Rattle.convert.proofs.size_of.Lts as lts
-use Rattle.figures.proofs.size_of_l.Reads as size-of-l-reads
-use Rattle.tables.proofs.a_at.Reads as a-at-reads
-use Rattle.tables.proofs.b_at.Reads as b-at-reads
-use Rattle.tables.proofs.h_at.Reads as h-at-reads
 
--- src/lib.rt:162:9
+returns : tie.Need-returns
+returns c =
+    let p = c .before .before .before .before .before .pre in
+    let h = c .before .before .before .h-at in
+    let a = c .before .before .a-at in
+    let b = c .before .b-at in
+    bits-is (c .size-of-l .ok) ∙ c .size-of-l .ensures ∙ size-worked _ _ _ (p .4) (h .ensures .0) (bits-is (a .ok)) (a .ensures .0) (bits-is (b .ok)) (b .ensures .0)
+
 h-at-requires : tie.Need-h-at-requires
 h-at-requires c κs = search needs
 
--- src/lib.rt:163:9
 a-at-requires : tie.Need-a-at-requires
 a-at-requires c κs = search needs
 
--- src/lib.rt:164:9
 b-at-requires : tie.Need-b-at-requires
-b-at-requires c κs = ?
+b-at-requires c κs =
+    let p = c .before .before .before .pre in
+    (p .0, p .1, size-reach _ _ (p .5) .high)
 
--- src/lib.rt:165:5
 size-of-l-requires : tie.Need-size-of-l-requires
-size-of-l-requires c κs = ?
-
--- src/lib.rt:158:1
-returns : tie.Need-returns
-returns c = ?
+size-of-l-requires c κs =
+    let p = c .before .before .before .before .pre in
+    let h = c .before .before .h-at .ensures in
+    let a = c .before .a-at in
+    (x-small _ (p .0) _ _ (p .2) (p .3), bits-most (a .result) (a .ok) (a .ensures .1), bits-most (c .b-at .result) (c .b-at .ok) (c .b-at .ensures .1), omega (arith, h .1), h .2)
 
 pub size-of-spec : {M : Type 1} → statement M
 size-of-spec =

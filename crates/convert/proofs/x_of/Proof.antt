@@ -8,11 +8,11 @@ use mir.Syntax.{w64}
 use mir.Val.{toZ, ofZ}
 use Rattle.figures.specs.Nearest.{withSign}
 use Rattle.figures.proofs.Sizes.{size-withSign}
-use Rattle.figures.proofs.Holds.{Holds, sum, sum-fits, cast, cast-fits, rebounded}
+use Rattle.figures.proofs.Holds.{Holds, sum, sum-fits, cast, cast-fits}
 use Rattle.extent.proofs.Points.{size-small}
 use Rattle.tables.specs.Figures.{falseEasting}
 use Rattle.convert.specs.Forward.{xSize, xOf}
-use Rattle.convert.proofs.Eastings.{sign-worked, s-most, x-size, x-most}
+use Rattle.convert.proofs.Eastings.{sign-worked, s-most, x-size}
 use Rattle.convert.proofs.Bits.{bits-is, bits-hold, bits-below}
 use borrow.Author.Needs.{needs}
 use Rattle.convert.proofs.x_of.Statement.{statement}
@@ -26,7 +26,7 @@ size-is c =
 
 x-is : (c : tie.After-with-sign)
     → let args = c .before .before .before .before .args in
-      Holds w64 (ofZ w64 (c .with-sign .result)) (withSign (args .l) (xSize (now (args .s)) (args .t) (natAbs (args .l)))) 61_204_000
+    Holds w64 (ofZ w64 (c .with-sign .result)) (withSign (args .l) (xSize (now (args .s)) (args .t) (natAbs (args .l)))) 61_204_000
 x-is c =
     let start = c .before .before .before .before in
     let l : toZ w64 (ofZ w64 (start .args .l)) ≡ start .args .l = search needs in

@@ -19,7 +19,7 @@ use Rattle.convert.proofs.y_of.Tie as tie
 -- the rise, and y0, as they were worked
 rise-is : (c : tie.After-rise)
     → let args = c .before .before .before .before .before .args in
-      Holds w64 (ofZ w64 (c .rise .result)) (rise (vAt (now (args .s)) (args .t)) (qOf (args .size)) (cAt (now (args .s)) (args .size))) 504_200
+    Holds w64 (ofZ w64 (c .rise .result)) (rise (vAt (now (args .s)) (args .t)) (qOf (args .size)) (cAt (now (args .s)) (args .size))) 504_200
 rise-is c =
     let p = c .before .before .before .before .before .pre in
     let v = c .before .before .before .v-at in
