@@ -3,14 +3,26 @@ use mathlib.Core.Path.{_≡_, refl}
 use mathlib.Core.List.{map}
 use Rattle.figures.specs.Nearest.{withSign, nearestSize, nearest}
 use Rattle.figures.specs.Between.{between}
-use Rattle.figures.specs.Steps.{qOf, sizeOfX, rise, reduction, seconds, perSecond}
+use Rattle.figures.specs.Steps.{qOf, sizeOfX, rise, reduction, seconds, approximateL, sizeOfL, perSecond}
 use Rattle.words.specs.Words.{unsignedAt, signed32, wordAt, bits32}
-use Rattle.words.specs.Ladder.{need, whereBelow}
+use Rattle.words.specs.Ladder.{need, whereBelow, whereIs, orElse}
+use Rattle.words.specs.Faults.{firstFault}
 use Rattle.rules.specs.Limits.{inRange, rises, sameAs}
 use Rattle.rules.specs.Latitude.{figuresInRange, withinBounds, differencesOf, noDifferences, sameDifferences}
-use Rattle.rows.specs.Rows.{figuresAt, differencesAt, rowInRange, pairFault, lastFault, latitudeFault}
-use Rattle.promises.specs.Cases.{Case, starred, harvey, kahela, kahelaBack, irish, irishBack, naper, bytesOf, from2048, row2048, halfM, halfA}
+use Rattle.rows.specs.Rows.{zeroFirst, figuresAt, differencesAt, rowInRange, pairFault, lastFault, zoneFault, latitudeFault, longitudeFault, northingFault, eastingFault, scaleFault}
+use Rattle.contents.specs.Entries.{named, dueAt, entryOf}
+use Rattle.contents.specs.Contents.{within, entryFault, sized, contentsOf}
+use Rattle.bodies.specs.Check.{rowFault, bodiesOf, checkOf}
+use Rattle.reading.specs.Tables.{pastRow, valueAt, withinRows}
+use Rattle.reading.specs.Rows.{lastNotAbove}
+use Rattle.tables.specs.Figures.{centralMeridian, falseEasting, firstLatitude, y0Of, y0At, hAt, vAt, aAt, bAt, cAt, pAt, dAt}
+use Rattle.extent.specs.Extent.{fromFirst, latitudeKnown, lOf, sizeKnown, longitudeKnown, xPrime, eastingKnown, northingKnown, reducedKnown}
+use Rattle.convert.specs.Forward.{xSize, xOf, yOf, planeAt, forwardOf, geographicToPlane}
+use Rattle.convert.specs.Inverse.{reducedNorthing, rowOf, secondsPast, distanceOf, approximateOf, sizeOf, longitudeOf, geographicAt, fromDistance, fromReduced, inverseOf, planeToGeographic}
+use Rattle.promises.specs.Bytes.{bytesOf}
+use Rattle.promises.specs.CaseSheet.{caseSheet}
+use Rattle.promises.specs.Cases.{Case, starred, harvey, kahela, kahelaBack, irish, irishBack, naper, from2048, row2048, halfM, halfA, minute31, listingG, listingP}
 
 pub cases-hold : map (λ (c : Case). c .worked) starred ≡ map (λ (c : Case). c .printed) starred
-unfolding withSign nearestSize nearest between qOf sizeOfX rise reduction seconds perSecond unsignedAt signed32 wordAt bits32 need whereBelow inRange rises sameAs figuresInRange withinBounds differencesOf noDifferences sameDifferences figuresAt differencesAt rowInRange pairFault lastFault latitudeFault bytesOf from2048 starred harvey kahela kahelaBack irish irishBack naper row2048 halfM halfA
+unfolding withSign nearestSize nearest between qOf sizeOfX rise reduction seconds approximateL sizeOfL perSecond unsignedAt signed32 wordAt bits32 need whereBelow whereIs orElse firstFault inRange rises sameAs figuresInRange withinBounds differencesOf noDifferences sameDifferences zeroFirst figuresAt differencesAt rowInRange pairFault lastFault zoneFault latitudeFault longitudeFault northingFault eastingFault scaleFault named dueAt entryOf within entryFault sized contentsOf rowFault bodiesOf checkOf pastRow valueAt withinRows lastNotAbove centralMeridian falseEasting firstLatitude y0Of y0At hAt vAt aAt bAt cAt pAt dAt fromFirst latitudeKnown lOf sizeKnown longitudeKnown xPrime eastingKnown northingKnown reducedKnown xSize xOf yOf planeAt forwardOf geographicToPlane reducedNorthing rowOf secondsPast distanceOf approximateOf sizeOf longitudeOf geographicAt fromDistance fromReduced inverseOf planeToGeographic bytesOf from2048 caseSheet starred harvey kahela kahelaBack irish irishBack naper row2048 halfM halfA minute31 listingG listingP
 cases-hold = refl

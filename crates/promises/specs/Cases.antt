@@ -1,17 +1,29 @@
 -- The worked figures of the Survey's sheets that are proved: each case has the figures that the definitions give, and those that are printed.
 use mathlib.Core.List.{List, [], _∷_}
-use Prim.Native.Nat.{ℕ, _-_, _/_, _%_}
+use Prim.Native.Nat.{ℕ, _-_}
 use lib.IntN.{ℤ, pos, negℤ, _-ℤ_}
 use Rattle.figures.specs.Nearest.{withSign, nearest}
 use Rattle.figures.specs.Between.{between}
 use Rattle.figures.specs.Steps.{qOf, sizeOfX, rise, reduction, seconds, perSecond}
-use Rattle.words.specs.Words.{bits32}
 use Rattle.rows.specs.Rows.{latitudeFault}
+use Rattle.convert.specs.declared.Plane.{Plane}
+use Rattle.convert.specs.declared.Geographic.{Geographic}
+use Rattle.convert.specs.Forward.{geographicToPlane}
+use Rattle.convert.specs.Inverse.{planeToGeographic}
+use Rattle.promises.specs.Bytes.{bytesOf}
+use Rattle.promises.specs.CaseSheet.{caseSheet}
 
 -- What the definitions work, figure by figure, and what is printed, in the same units.
 pub record Case : Type 0 where
   pub worked : List ℤ
   pub printed : List ℤ
+
+-- An answer's number and its two values.
+abbrev pub onPlane : Plane → List ℤ
+onPlane r = pos (r .number) ∷ r .x ∷ r .y ∷ []
+
+abbrev pub onEarth : Geographic → List ℤ
+onEarth r = pos (r .number) ∷ r .latitude ∷ r .longitude ∷ []
 
 -- Document 000, Harvey: at 38°26′17.646″ y0 341,647.98, H 79.567780, between the rows 38°26′ and 38°27′.
 unfoldable pub harvey : Case
@@ -59,11 +71,6 @@ naper = record {
   printed = pos 7_316 ∷ pos 7_315 ∷ [];
 }
 
--- Words as bytes, four each, the first the highest.
-unfoldable pub bytesOf : List ℤ → List ℕ
-bytesOf [] = []
-bytesOf (w ∷ ws) = bits32 w / 16_777_216 ∷ bits32 w / 65_536 % 256 ∷ bits32 w / 256 % 256 ∷ bits32 w % 256 ∷ bytesOf ws
-
 -- Document 003's latitude rows 20°48′ and 20°49′, with dh as ΔH of the first.
 unfoldable pub from2048 : ℤ → List ℕ
 from2048 dh =
@@ -98,6 +105,26 @@ halfA = record {
   printed = negℤ (pos 988) ∷ negℤ (pos 988) ∷ [];
 }
 
--- The list. Still to join it, with the operations that they need: latitude 21°31′00.000″, and the first two points of the points program's listing.
+-- Case sheet, x 500,000.00, y 127,133.05: latitude 21°31′00.000″, on the central meridian, 158°. The seconds past 21°30′ come to 60.000.
+unfoldable pub minute31 : Case
+minute31 = record {
+  worked = onEarth (planeToGeographic caseSheet (pos 50_000_000) (pos 12_713_305));
+  printed = pos 0 ∷ pos 77_460_000 ∷ pos 568_800_000 ∷ [];
+}
+
+-- The two first points of the listing, on the case sheet: `G 77430000 568250000` and `P 55193582 12413141`.
+unfoldable pub listingG : Case
+listingG = record {
+  worked = onPlane (geographicToPlane caseSheet (pos 77_430_000) (pos 568_250_000));
+  printed = pos 0 ∷ pos 55_193_582 ∷ pos 12_413_141 ∷ [];
+}
+
+unfoldable pub listingP : Case
+listingP = record {
+  worked = onEarth (planeToGeographic caseSheet (pos 55_193_582) (pos 12_413_141));
+  printed = pos 0 ∷ pos 77_430_000 ∷ pos 568_250_000 ∷ [];
+}
+
+-- The list.
 unfoldable pub starred : List Case
-starred = harvey ∷ kahela ∷ kahelaBack ∷ irish ∷ irishBack ∷ naper ∷ row2048 ∷ halfM ∷ halfA ∷ []
+starred = harvey ∷ kahela ∷ kahelaBack ∷ irish ∷ irishBack ∷ naper ∷ row2048 ∷ halfM ∷ halfA ∷ minute31 ∷ listingG ∷ listingP ∷ []
