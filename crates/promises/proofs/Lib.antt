@@ -2,3 +2,5 @@
 pub mod CasesHold
 pub mod NearestIsNearest
 pub mod OneAnswer
+pub mod AnswersFit
+pub mod SizesAndSigns

@@ -2,7 +2,7 @@
 -- order. It has 238 words.
 use mathlib.Core.List.{List, [], _∷_}
 use Prim.Native.Nat.{ℕ}
-use lib.IntN.{ℤ, pos, negℤ}
+use lib.IntN.{pos, negℤ}
 use Rattle.promises.specs.Bytes.{bytesOf}
 
 unfoldable pub caseSheet : List ℕ

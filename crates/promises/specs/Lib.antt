@@ -3,3 +3,4 @@ pub mod Bytes
 pub mod CaseSheet
 pub mod Cases
 pub mod Meaning
+pub mod Conversions
