@@ -8,7 +8,11 @@
 
 verdict bannerscale_check(const uint8_t *sheet, size_t length);
 
-enum { CHANGED = 200000, RUNS = 15, CALLS = 20000, ROOM = 65536 };
+greatest bannerscale_forward(const uint8_t *sheet, size_t length, const int32_t *points, size_t numbers);
+greatest bannerscale_inverse(const uint8_t *sheet, size_t length, const int32_t *points, size_t numbers);
+greatest bannerscale_convergence(const uint8_t *sheet, size_t length, const int32_t *points, size_t numbers);
+
+enum { CHANGED = 200000, RUNS = 15, CALLS = 20000, ROOM = 65536, POINTS = 100000 };
 
 static int same(verdict a, verdict b) { return a.number == b.number && a.kind == b.kind && a.row == b.row; }
 
@@ -66,6 +70,61 @@ static double time_check(verdict (*check)(const uint8_t *, size_t), const uint8_
     return least;
 }
 
+typedef greatest over(const uint8_t *, size_t, const int32_t *, size_t);
+
+static double time_points(over *all, const uint8_t *sheet, size_t length, const int32_t *points) {
+    double least = 1e18;
+    volatile int32_t sum = 0;
+    for (int run = 0; run < RUNS; run++) {
+        double from = now();
+        sum += all(sheet, length, points, 2 * POINTS).first;
+        double each = (now() - from) / POINTS;
+        if (each < least) least = each;
+    }
+    return least;
+}
+
+// Compares the two over the points one by one, then times them over all.
+static int compare(const char *name, const char *file, over *ours, over *plain, const uint8_t *sheet, size_t length, const int32_t *points) {
+    int differ = 0;
+    for (int k = 0; k < POINTS / 100; k++) {
+        greatest a = ours(sheet, length, points + 2 * k, 2), b = plain(sheet, length, points + 2 * k, 2);
+        differ += a.first != b.first || a.second != b.second;
+    }
+    for (int k = 0; k < POINTS; k += 100) {
+        greatest a = ours(sheet, length, points + 2 * k, 200), b = plain(sheet, length, points + 2 * k, 200);
+        differ += a.first != b.first || a.second != b.second;
+    }
+    double a = time_points(ours, sheet, length, points), b = time_points(plain, sheet, length, points);
+    printf("%s %s: %d differences; library %.1f ns a point, plain C %.1f ns, ratio %.2f\n", name, file, differ, a, b, a / b);
+    return differ;
+}
+
+static int32_t word(const uint8_t *sheet, size_t n) {
+    const uint8_t *b = sheet + 4 * n;
+    return (int32_t)((uint32_t)b[0] << 24 | (uint32_t)b[1] << 16 | (uint32_t)b[2] << 8 | b[3]);
+}
+
+// Points all over the latitude rows and 1,000″ to either side of the central meridian, and what they come to on the plane.
+static void spread(const uint8_t *sheet, const places *p, int32_t *earth, int32_t *flat) {
+    int32_t central = word(sheet, p->start[1]), first = word(sheet, p->start[2]) * 60000;
+    for (int k = 0; k < POINTS; k++) {
+        earth[2 * k] = first + (int32_t)(next() % ((p->rows[2] - 1) * 60000));
+        earth[2 * k + 1] = central + (int32_t)(next() % 2000001) - 1000000;
+        plane r = plain_forward(sheet, p, earth[2 * k], earth[2 * k + 1]);
+        flat[2 * k] = r.x, flat[2 * k + 1] = r.y;
+    }
+}
+
+static int conversions(const char *file, const uint8_t *sheet, size_t length) {
+    static int32_t earth[2 * POINTS], flat[2 * POINTS];
+    places p = plain_places(sheet);
+    spread(sheet, &p, earth, flat);
+    return compare("forward", file, bannerscale_forward, plain_forward_all, sheet, length, earth)
+         + compare("inverse", file, bannerscale_inverse, plain_inverse_all, sheet, length, flat)
+         + compare("convergence", file, bannerscale_convergence, plain_convergence_all, sheet, length, flat);
+}
+
 int main(int count, char **names) {
     int seen[10] = {0};
     for (int k = 1; k < count; k++) {
@@ -77,7 +136,7 @@ int main(int count, char **names) {
         int differ = !same(bannerscale_check(sheet, length), plain_check(sheet, length)) + differences(sheet, length, seen);
         double a = time_check(bannerscale_check, sheet, length), b = time_check(plain_check, sheet, length);
         printf("check %s: %d of %d changed sheets answered differently; library %.0f ns, plain C %.0f ns, ratio %.2f\n", names[k], differ, CHANGED, a, b, a / b);
-        if (differ) return 1;
+        if (differ + conversions(names[k], sheet, length)) return 1;
     }
     for (int n = 0; n < 10; n++) printf("number %d: %d\n", n, seen[n]);
     return 0;

@@ -187,3 +187,21 @@ grid plain_convergence(const uint8_t *s, const places *p, int32_t x, int32_t y) 
     int64_t turn = nearest_size(m * size, 100000000);
     return (grid){0, x1 < 0 ? -turn : turn, size_between(pair_at(s, p, 6, size, SCALE), 1, 0, SCALE)};
 }
+
+// Over many points.
+static int32_t greater(int32_t a, int32_t b) { return a < b ? b : a; }
+
+#define OVER(name, answer, one, two)                                                                                                                     \
+    greatest plain_##name##_all(const uint8_t *sheet, size_t length, const int32_t *points, size_t numbers) {                                            \
+        greatest g = {0, 0};                                                                                                                             \
+        if (plain_check(sheet, length).number) return g;                                                                                                 \
+        places p = plain_places(sheet);                                                                                                                  \
+        for (size_t i = 0; i < numbers / 2; i++) {                                                                                                       \
+            answer r = plain_##name(sheet, &p, points[2 * i], points[2 * i + 1]);                                                                        \
+            g.first = greater(g.first, r.one), g.second = greater(g.second, r.two);                                                                      \
+        }                                                                                                                                                \
+        return g;                                                                                                                                        \
+    }
+OVER(forward, plane, x, y)
+OVER(inverse, geographic, latitude, longitude)
+OVER(convergence, grid, convergence, scale)

@@ -33,3 +33,12 @@ places plain_places(const uint8_t *sheet);
 plane plain_forward(const uint8_t *sheet, const places *p, int32_t latitude, int32_t longitude);
 geographic plain_inverse(const uint8_t *sheet, const places *p, int32_t x, int32_t y);
 grid plain_convergence(const uint8_t *sheet, const places *p, int32_t x, int32_t y);
+
+// The greatest of each value over many points, which are pairs of numbers, on one sheet, which is checked once. Zeros where it fails.
+typedef struct {
+    int32_t first, second;
+} greatest;
+
+greatest plain_forward_all(const uint8_t *sheet, size_t length, const int32_t *points, size_t numbers);
+greatest plain_inverse_all(const uint8_t *sheet, size_t length, const int32_t *points, size_t numbers);
+greatest plain_convergence_all(const uint8_t *sheet, size_t length, const int32_t *points, size_t numbers);

@@ -5,3 +5,4 @@ pub mod Spans
 pub mod EachKind
 pub mod Passing
 pub mod OfFault
+pub mod ByTable

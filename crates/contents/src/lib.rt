@@ -59,21 +59,26 @@ pub const SCALE: usize = 6;
 
 pub const LAST_KIND: usize = SCALE;
 
-// By kind: words in a row, least rows, most rows, and the step from a row to the next. There is no kind 0.
-const WIDTHS: [usize; 7] = [0, 2, 8, 2, 2, 1, 1];
-
+// By kind: least rows, most rows. There is no kind 0.
 const LEAST_ROWS: [usize; 7] = [0, 1, 2, 2, 2, 2, 2];
 
 const MOST_ROWS: [usize; 7] = [0, 1, 1_200, 61, 100, 10, 200];
 
-const STEPS: [u64; 7] = [0, 0, 60_000, 100_000, 10_000_000, 5_000_000, 500_000];
-
-// Words in a row of the kind.
+// Words in a row of the kind. This and the step are chains, not arrays: where the kind is known beforehand nothing is left of them.
 pub fn width_of(kind: usize) -> usize
     requires { ⌜ kind ≤ lastKind ⌝ }
     ensures { λ r. ⌜ r ≡ widthOf kind ⌝ }
 {
-    WIDTHS[kind]
+    if kind == 0 {
+        return 0;
+    }
+    if kind == LATITUDE {
+        return 8;
+    }
+    if kind < EASTING {
+        return 2; // zone, longitude and northing
+    }
+    1
 }
 
 // The step from a row of the kind to the next, in the point's unit.
@@ -81,7 +86,22 @@ pub fn step_of(kind: usize) -> u64
     requires { ⌜ kind ≤ lastKind ⌝ }
     ensures { λ r. ⌜ r ≡ stepOf kind ⌝ }
 {
-    STEPS[kind]
+    if kind == LATITUDE {
+        return 60_000;
+    }
+    if kind == LONGITUDE {
+        return 100_000;
+    }
+    if kind == NORTHING {
+        return 10_000_000;
+    }
+    if kind == EASTING {
+        return 5_000_000;
+    }
+    if kind == SCALE {
+        return 500_000;
+    }
+    0
 }
 
 // The least rows that the kind may have.
