@@ -5,7 +5,6 @@ use lib.IntN.{ℤ, natAbs, _+ℤ_}
 use Rattle.figures.specs.Nearest.{withSign}
 use Rattle.figures.specs.Steps.{qOf, sizeOfX, rise}
 use Rattle.words.specs.Ladder.{need}
-use Rattle.contents.specs.Layout.{latitude, longitude}
 use Rattle.tables.specs.Figures.{falseEasting, y0At, hAt, vAt, aAt, bAt, cAt}
 use Rattle.extent.specs.Extent.{fromFirst, latitudeKnown, lOf, longitudeKnown}
 use Rattle.convert.specs.declared.Plane.{Plane}
@@ -35,5 +34,6 @@ forwardOf s north west =
     (need (longitudeKnown s west) (noPlane 11)
     (planeAt s north west))
 
+-- The check's number first.
 unfoldable pub geographicToPlane : List ℕ → ℤ → ℤ → Plane
 geographicToPlane s north west = afterCheck (λ r. r .number) noPlane s (forwardOf s north west)

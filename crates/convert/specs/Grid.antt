@@ -4,7 +4,6 @@ use Prim.Native.Nat.{ℕ}
 use lib.IntN.{ℤ, natAbs}
 use Rattle.figures.specs.Steps.{convergence}
 use Rattle.words.specs.Ladder.{need}
-use Rattle.contents.specs.Layout.{scale}
 use Rattle.tables.specs.Figures.{mAt, kAt}
 use Rattle.extent.specs.Extent.{xPrime, scaleKnown, northingKnown}
 use Rattle.convert.specs.declared.Grid.{Grid}
@@ -25,5 +24,6 @@ gridOf s x y =
     (need (northingKnown s y) (noGrid 13)
     (gridAt s (xPrime s x) y))
 
+-- The check's number first.
 unfoldable pub convergenceAndScale : List ℕ → ℤ → ℤ → Grid
 convergenceAndScale s x y = afterCheck (λ r. r .number) noGrid s (gridOf s x y)

@@ -1,11 +1,11 @@
 -- "Plane to geographic." x and y in 0.01 ft, latitude and longitude in 0.001″. s is the sheet, xp is x′, and x, where a step takes it, the size of x′.
 use mathlib.Core.List.{List}
-use Prim.Native.Nat.{ℕ, _+_, _-_, _*_}
+use Prim.Native.Nat.{ℕ, _+_, _*_}
 use lib.IntN.{ℤ, pos, natAbs, _+ℤ_, _-ℤ_}
 use Rattle.figures.specs.Nearest.{withSign}
 use Rattle.figures.specs.Steps.{reduction, seconds, approximateL, sizeOfL}
 use Rattle.words.specs.Ladder.{need, whereBelow}
-use Rattle.contents.specs.Layout.{latitude, northing, stepOf}
+use Rattle.contents.specs.Layout.{latitude, stepOf}
 use Rattle.contents.specs.Entries.{rowsOf}
 use Rattle.reading.specs.Rows.{lastNotAbove}
 use Rattle.tables.specs.Figures.{centralMeridian, firstLatitude, y0Of, hAt, aAt, bAt, pAt, dAt}
@@ -49,21 +49,25 @@ longitudeOf s xp t = centralMeridian s -ℤ withSign xp (sizeOf s (natAbs xp) t)
 unfoldable pub geographicAt : List ℕ → ℤ → ℕ → Geographic
 geographicAt s xp t = geographic 0 (firstLatitude s +ℤ pos t) (longitudeOf s xp t)
 
--- "inverse 12, 13, 14, 11", on a sheet that passes, the last first. 11: "the size of L (.. approximate or final) above the last kind 3 row".
+-- "inverse 12, 13, 14, 11", on a sheet that passes, in three parts of which each goes on to the one above it. From the latitude on: 11, where "the size of L (.. approximate or
+-- final)" is "above the last kind 3 row".
 unfoldable pub fromDistance : List ℕ → ℤ → ℕ → Geographic
 fromDistance s xp t =
     need (sizeKnown s (pos (approximateOf s (natAbs xp) t))) (noGeographic 11)
     (need (sizeKnown s (sizeOf s (natAbs xp) t)) (noGeographic 11)
     (geographicAt s xp t))
 
+-- From the reduced northing on: 14, then the latitude.
 unfoldable pub fromReduced : List ℕ → ℤ → ℤ → Geographic
 fromReduced s xp reduced = need (reducedKnown s reduced) (noGeographic 14) (fromDistance s xp (distanceOf s reduced))
 
+-- From x and y on: 12, 13, then the reduced northing.
 unfoldable pub inverseOf : List ℕ → ℤ → ℤ → Geographic
 inverseOf s x y =
     need (eastingKnown s (xPrime s x)) (noGeographic 12)
     (need (northingKnown s y) (noGeographic 13)
     (fromReduced s (xPrime s x) (reducedNorthing s (natAbs (xPrime s x)) y)))
 
+-- The check's number first.
 unfoldable pub planeToGeographic : List ℕ → ℤ → ℤ → Geographic
 planeToGeographic s x y = afterCheck (λ r. r .number) noGeographic s (inverseOf s x y)

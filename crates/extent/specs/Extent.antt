@@ -1,5 +1,5 @@
--- Where a point stands in a sheet's tables, and whether that is within their rows: the tests behind numbers 10 to 14. s is the sheet, north and west are a latitude and a west
--- longitude in 0.001″, x and y are in 0.01 ft, and xp is x′.
+-- Where a point stands in a sheet's tables, and whether that is within their rows: the tests behind numbers 10 to 14. A number is due where its test is reached and false; which
+-- tests come first, the conversions say. s is the sheet, north and west are a latitude and a west longitude in 0.001″, x and y are in 0.01 ft, and xp is x′.
 use mathlib.Core.Bool.{Bool, _&&_}
 use mathlib.Core.List.{List}
 use Prim.Native.Nat.{ℕ, _-_}
@@ -14,7 +14,7 @@ use Rattle.tables.specs.Figures.{centralMeridian, falseEasting, firstLatitude, 
 unfoldable pub fromFirst : List ℕ → ℤ → ℤ
 fromFirst s north = north -ℤ firstLatitude s
 
--- False exactly where 10 is due: "latitude below the first or above the last row". The last row stands as many minutes after the first as rows follow it.
+-- For 10, "latitude below the first or above the last row". The last row stands as many minutes after the first as rows follow it.
 unfoldable pub latitudeKnown : List ℕ → ℤ → Bool
 latitudeKnown s north = withinRows (rowsOf s latitude) (stepOf latitude) (fromFirst s north)
 
@@ -22,11 +22,12 @@ latitudeKnown s north = withinRows (rowsOf s latitude) (stepOf latitude) (fromFi
 unfoldable pub lOf : List ℕ → ℤ → ℤ
 lOf s west = centralMeridian s -ℤ west
 
--- A size of L that is not above the last kind 3 row.
+-- For 11, "the size of L (given, approximate or final) above the last kind 3 row". A size is not negative; none of the three ever is on a sheet that passes.
 unfoldable pub sizeKnown : List ℕ → ℤ → Bool
 sizeKnown s size = withinRows (rowsOf s longitude) (stepOf longitude) size
 
--- False exactly where 11 is due: "longitude outside 0 to 648,000,000, or the size of L (given ..) above the last kind 3 row". "s is the size of L."
+-- For 11 of geographic to plane: "longitude outside 0 to 648,000,000, or the size of L (given ..) above the last kind 3 row". "s is the size of L." A longitude within the rows of
+-- kind 3 is never outside 0 to 648,000,000, since a central meridian lies 6,000″ or more from both; so plane to geographic, whose longitude is worked, has no such test.
 unfoldable pub longitudeKnown : List ℕ → ℤ → Bool
 longitudeKnown s west = (leZ (pos 0) west && leZ west (pos 648_000_000)) && sizeKnown s (pos (natAbs (lOf s west)))
 
@@ -34,18 +35,18 @@ longitudeKnown s west = (leZ (pos 0) west && leZ west (pos 648_000_000)) && size
 unfoldable pub xPrime : List ℕ → ℤ → ℤ
 xPrime s x = x -ℤ falseEasting s
 
--- False exactly where 12 is due: "x′ in size above the last row of kind 5"
+-- For 12 of plane to geographic: "x′ in size above the last row of kind 5"
 unfoldable pub eastingKnown : List ℕ → ℤ → Bool
 eastingKnown s xp = withinRows (rowsOf s easting) (stepOf easting) (pos (natAbs xp))
 
--- False exactly where 12 is due: "x′ in size above the last row of kind 5, or for convergence and scale of kind 6"
+-- For 12 of convergence and scale: "x′ in size above the last row .. of kind 6"
 unfoldable pub scaleKnown : List ℕ → ℤ → Bool
 scaleKnown s xp = withinRows (rowsOf s scale) (stepOf scale) (pos (natAbs xp))
 
--- False exactly where 13 is due: "y below 0 or above the last kind 4 row"
+-- For 13, "y below 0 or above the last kind 4 row"
 unfoldable pub northingKnown : List ℕ → ℤ → Bool
 northingKnown s y = withinRows (rowsOf s northing) (stepOf northing) y
 
--- False exactly where 14 is due: "reduced northing below the first or above the last y0"
+-- For 14, "reduced northing below the first or above the last y0"
 unfoldable pub reducedKnown : List ℕ → ℤ → Bool
 reducedKnown s reduced = leZ (y0Of s 0) reduced && leZ reduced (y0Of s (rowsOf s latitude - 1))

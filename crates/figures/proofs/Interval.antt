@@ -1,9 +1,9 @@
 -- Laws of reading between rows: at a row it is the row, and elsewhere it lies between the two rows, whatever the step. Assumes nothing.
 use mathlib.Core.Path.{_≡_, sym, ap, _∙_}
 use Prim.Native.Nat.{ℕ, _+_, _*_, _-_, _<_, _≤_}
-use native.Mathlib.Nat.{mul-add, mul-le-mul-right, le-trans}
+use native.Mathlib.Nat.{mul-add, mul-le-mul-right, le-refl, le-trans}
 use native.Mathlib.Omega.{arith}
-use lib.IntN.{ℤ, pos, natAbs, _+ℤ_, _-ℤ_, _*ℤ_, +ℤ-assoc, +ℤ-comm, +ℤ-idr, *ℤ-zero, -ℤ-+ℤ-cancel}
+use lib.IntN.{ℤ, pos, natAbs, _+ℤ_, _-ℤ_, _*ℤ_, +ℤ-assoc, +ℤ-comm, +ℤ-idl, +ℤ-idr, *ℤ-zero, -ℤ-+ℤ-cancel}
 use Rattle.figures.specs.Nearest.{withSign, nearestSize, nearest}
 use Rattle.figures.specs.Between.{between}
 use Rattle.figures.proofs.Ring.{difference-times, times-sum}
@@ -73,3 +73,13 @@ module _ (t step : ℕ) (inside : t ≤ step) where
 
     pub sizes-least : (u w lo : ℕ) → lo ≤ u → lo ≤ w → lo ≤ nearestSize (u * (step - t) + w * t) step
     sizes-least u w lo p q = nearestSize-least (u * (step - t) + w * t) step lo positive (weight-least u w lo p q)
+
+-- a whole step past a row is the next row
+pub at-next : (u w : ℤ) (step : ℕ) → 0 < step → between u w step step ≡ w
+at-next u w step h =
+    let none : step - step ≡ 0 = omega arith in
+    between-weighed step step (le-refl step) u w
+    ∙ ap (λ (n : ℕ). nearest (u *ℤ pos n +ℤ w *ℤ pos step) step) none
+    ∙ ap (λ (z : ℤ). nearest (z +ℤ w *ℤ pos step) step) (*ℤ-zero u)
+    ∙ ap (λ (z : ℤ). nearest z step) (+ℤ-idl (w *ℤ pos step))
+    ∙ nearest-multiple w step h

@@ -1,5 +1,6 @@
 -- The Survey's printed steps, one definition a step, over whole numbers in the sheet's and the point's units.
--- A figure that cannot be negative is a ℕ, and so is a size; a, b, c, d, a signed x′ and what they enter are ℤ. Each step rounds once, by nearest.
+-- A figure that cannot be negative is a ℕ, and so is a size that is given; a, b, c, d, a signed x′ and what they enter, the sizes of x′ and of L among it, are ℤ. Each step rounds
+-- once, by nearest.
 use Prim.Native.Nat.{ℕ, _*_}
 use lib.IntN.{ℤ, pos, _+ℤ_, _-ℤ_, _*ℤ_}
 use Rattle.figures.specs.Nearest.{nearestSize, nearest}

@@ -40,9 +40,9 @@ pub fn nearest(n: i64, d: u64) -> i64
     with_sign(n, nearest_size(size(n), d) as i64)
 }
 
-// The value between rows u and w of a step, at an offset t below it, rounded once.
+// The value between rows u and w of a step, at an offset t up to it, rounded once.
 pub fn between(u: i64, w: i64, t: u64, step: u64) -> i64
-    requires { ⌜ (natAbs u ≤ mostRow) × (natAbs w ≤ mostRow) × (t < step) × (step ≤ mostStep) ⌝ }
+    requires { ⌜ (natAbs u ≤ mostRow) × (natAbs w ≤ mostRow) × (t ≤ step) × (step ≤ mostStep) × (0 < step) ⌝ }
     ensures { λ r. ⌜ r ≡ between u w t step ⌝ }
 {
     nearest(u * (step as i64) + (w - u) * (t as i64), step)

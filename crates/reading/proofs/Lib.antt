@@ -2,6 +2,8 @@
 pub mod LastRow
 pub mod Rising
 pub mod Within
+pub mod Pairs
+pub mod Unsigned
 pub mod Span
 pub mod Values
 pub mod Local

@@ -19,3 +19,7 @@ RisesBy f n least most =
 -- Each of the first n rows but the last is followed by a higher one.
 unfoldable pub Rising : (ℕ → ℤ) → ℕ → Type 0
 Rising f n = (i : ℕ) → i + 1 < n → ltZ (f i) (f (i + 1)) ≡ true
+
+-- None of the first n rows is negative.
+unfoldable pub NotNegative : (ℕ → ℤ) → ℕ → Type 0
+NotNegative f n = (i : ℕ) → i < n → leZ (pos 0) (f i) ≡ true

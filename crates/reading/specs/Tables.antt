@@ -21,7 +21,7 @@ pastRow f i t step = between (f i) (f (i + 1)) t step
 unfoldable pub valueAt : (ℕ → ℤ) → ℕ → ℕ → ℤ
 valueAt f step offset = pastRow f (offset / step) (offset % step) step
 
--- z lies from row 0 to the last of so many rows, which stands one step less than there are rows from row 0. It is false exactly where z is "below the first or above
--- the last row", as 10, 11, 12 and 13 say it of their tables.
+-- z, counted from row 0, lies from there to the last of so many rows, which stands a step past row 0 for each row after it. 10 and 13 refuse what is below or above, 11 and 12,
+-- which look at sizes, what is above.
 unfoldable pub withinRows : ℕ → ℕ → ℤ → Bool
 withinRows rows step z = leZ (pos 0) z && leZ z (pos ((rows - 1) * step))

@@ -1,35 +1,60 @@
 // Reading tables: a column's value at an offset, and the row of a reduced northing.
 ghost use mathlib.Core.Path.{_≡_};
 ghost use mathlib.Core.Bool.{true};
-ghost use Prim.Native.Nat.{_+_, _*_, _/_, _%_, _^_, _<_, _≤_, min};
+ghost use Prim.Native.Nat.{_+_, _-_, _*_, _^_, _<_, _≤_, min};
 ghost use lib.ListN.{length};
 ghost use lib.IntN.{pos, natAbs, _+ℤ_};
 ghost use lib.Signed.{leZ, ltZ};
 ghost use Rattle.figures.specs.Ranges.{mostCount, mostStep};
 ghost use Rattle.words.specs.Words.{wordAt};
 ghost use Rattle.reading.specs.Tables.{column, pastRow, valueAt, withinRows};
-ghost use Rattle.reading.specs.Rows.{lastNotAbove, RisesBy, Rising};
+ghost use Rattle.reading.specs.Rows.{lastNotAbove, RisesBy, Rising, NotNegative};
 
-// The value of column c at t past row i, for a body of w words in a row. At t = 0 the next row is not looked at.
-pub fn past_row(b: &[u8], w: usize, c: usize, i: usize, t: u64, step: u64) -> i64
-    requires { ⌜ (4 * (w * i + c) + 4 ≤ length (now b)) × (0 < t → 4 * (w * i + c + w) + 4 ≤ length (now b)) × (t < step) × (step ≤ mostStep) ⌝ }
+// The value of column c at t past row i, for a body of w words in a row. There is a next row, and t is up to the step.
+fn past_row(b: &[u8], w: usize, c: usize, i: usize, t: u64, step: u64) -> i64
+    requires { ⌜ (4 * (w * i + c + w) + 4 ≤ length (now b)) × (t ≤ step) × (step ≤ mostStep) × (0 < step) ⌝ }
     ensures { λ r. ⌜ r ≡ pastRow (column (now (b .entry)) w c) i t step ⌝ }
 {
     let at = w * i + c;
-    let u = words::word(b, at);
-    if t == 0 {
-        return u as i64;
-    }
-    let next = words::word(b, at + w);
-    figures::between(u as i64, next as i64, t, step)
+    let u = words::word(b, at) as i64;
+    let next = words::word(b, at + w) as i64;
+    figures::between(u, next, t, step)
 }
 
-// The value of column c at an offset from row 0.
-pub fn value_at(b: &[u8], w: usize, c: usize, step: u64, offset: u64) -> i64
-    requires { ⌜ (0 < step) × (step ≤ mostStep) × (4 * (w * (offset / step) + c) + 4 ≤ length (now b)) × (0 < offset % step → 4 * (w * (offset / step) + c + w) + 4 ≤ length (now b)) ⌝ }
+// The same where no figure of the column is negative: the words are read without a sign.
+fn size_past_row(b: &[u8], w: usize, c: usize, i: usize, t: u64, step: u64) -> u64
+    requires { ⌜ (4 * (w * i + c + w) + 4 ≤ length (now b)) × (t ≤ step) × (step ≤ mostStep) × (0 < step) × (leZ (pos 0) (column (now b) w c i) ≡ true) × (leZ (pos 0) (column (now b) w c (i + 1)) ≡ true) ⌝ }
+    ensures { λ r. ⌜ pos r ≡ pastRow (column (now (b .entry)) w c) i t step ⌝ }
+{
+    let at = w * i + c;
+    let u = words::unsigned_word(b, at) as u64;
+    let next = words::unsigned_word(b, at + w) as u64;
+    figures::nearest_size(u * (step - t) + next * t, step)
+}
+
+// k, cut to the last row.
+fn cut(k: u64, last: usize) -> usize
+    ensures { λ r. ⌜ r ≡ min k last ⌝ }
+{
+    if k < (last as u64) { k as usize } else { last }
+}
+
+// The value of column c of n rows at an offset from row 0. The last row is read as a whole step past the one before it, so that there is always a next.
+pub fn value_at(b: &[u8], w: usize, c: usize, n: usize, step: u64, offset: u64) -> i64
+    requires { ⌜ (2 ≤ n) × (4 * (w * n) ≤ length (now b)) × (c < w) × (0 < step) × (step ≤ mostStep) × (offset ≤ (n - 1) * step) ⌝ }
     ensures { λ r. ⌜ r ≡ valueAt (column (now (b .entry)) w c) step offset ⌝ }
 {
-    past_row(b, w, c, (offset / step) as usize, offset % step, step)
+    let i = cut(offset / step, n - 2);
+    past_row(b, w, c, i, offset - (i as u64) * step, step)
+}
+
+// The same where no figure of the column is negative.
+pub fn size_at(b: &[u8], w: usize, c: usize, n: usize, step: u64, offset: u64) -> u64
+    requires { ⌜ (2 ≤ n) × (4 * (w * n) ≤ length (now b)) × (c < w) × (0 < step) × (step ≤ mostStep) × (offset ≤ (n - 1) * step) × NotNegative (column (now b) w c) n ⌝ }
+    ensures { λ r. ⌜ pos r ≡ valueAt (column (now (b .entry)) w c) step offset ⌝ }
+{
+    let i = cut(offset / step, n - 2);
+    size_past_row(b, w, c, i, offset - (i as u64) * step, step)
 }
 
 // Whether z lies from row 0 to the last row.
@@ -81,13 +106,6 @@ fn height(b: &[u8], c: usize, z: i64) -> u64
     ensures { λ r. ⌜ z ≡ wordAt (now (b .entry)) c +ℤ pos r ⌝ }
 {
     (z - (words::word(b, c) as i64)) as u64
-}
-
-// k, cut to the last row.
-fn cut(k: u64, last: usize) -> usize
-    ensures { λ r. ⌜ r ≡ min k last ⌝ }
-{
-    if k < (last as u64) { k as usize } else { last }
 }
 
 // The same row where each row is higher than the one before it by least to most: a number d above row 0 can stand no lower than row d / most, and no

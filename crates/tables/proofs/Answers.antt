@@ -1,13 +1,14 @@
 -- What a named figure's function shows of its answer: r is the number that was read, v the figure. Assumes nothing.
-use mathlib.Core.Path.{_≡_, ap}
+use mathlib.Core.Path.{_≡_, ap, _∙_}
 use Prim.Native.Nat.{ℕ, _^_, _<_, _≤_}
-use lib.Dec.{T, ltb}
-use lib.IntN.{ℤ, natAbs}
+use native.Mathlib.Nat.{lt-of-le-of-lt}
+use lib.Dec.{T, ltb, ltb→lt}
+use lib.IntN.{ℤ, pos, natAbs}
 use lib.Signed.{mag, nonNeg}
 use mir.Syntax.{w64}
-use mir.Val.{Fits, toZ, ofZ}
+use mir.Val.{Fits, SFits, toZ, ofZ}
 use Rattle.figures.proofs.Sizes.{Size, size-nonNeg}
-use Rattle.figures.proofs.Holds.{Holds, held-result, renamed, unsigned-fits}
+use Rattle.figures.proofs.Holds.{Holds, held-result, held-size, renamed, unsigned-fits}
 
 module _ {r v : ℤ} (ok : mag r < 2 ^ 63) (e : r ≡ v) where
   holds : {k : ℕ} → natAbs v ≤ k → Holds w64 (ofZ w64 r) v k
@@ -30,3 +31,23 @@ module _ {r v : ℤ} (ok : mag r < 2 ^ 63) (e : r ≡ v) where
 
     pub size-high : natAbs (toZ w64 (ofZ w64 r)) ≤ high
     size-high = rw size-is (h .high)
+
+-- ---- a figure that was read as a size r
+module _ {r : ℕ} {v : ℤ} {low high : ℕ} (e : pos r ≡ v) (h : Size low v high) where
+  pub read-is : r ≡ natAbs v
+  read-is = ap natAbs e
+
+  pub read-low : low ≤ r
+  read-low = rw read-is (h .low)
+
+  pub read-high : r ≤ high
+  read-high = rw read-is (h .high)
+
+  -- and cast to a signed type
+  pub read-signed : T (ltb high (2 ^ 63)) → SFits w64 (pos r)
+  read-signed t = record { sfits = lt-of-le-of-lt read-high (ltb→lt high (2 ^ 63) t) }
+
+  pub read-signed-is : T (ltb high (2 ^ 63)) → (toZ w64 r ≡ v) × (natAbs (toZ w64 r) ≤ high)
+  read-signed-is t =
+      let is : toZ w64 r ≡ pos r = held-size w64 read-high t .is in
+      (is ∙ e, rw is read-high)

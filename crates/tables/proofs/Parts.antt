@@ -2,14 +2,14 @@
 -- Assumes nothing.
 use mathlib.Core.Path.{_≡_, ap, _∙_}
 use mathlib.Core.List.{List}
-use Prim.Native.Nat.{ℕ, zero, suc, _+_, _*_, _-_, _/_, _%_, _^_, _<_, _≤_}
+use Prim.Native.Nat.{ℕ, zero, suc, _+_, _*_, _-_, _^_, _<_, _≤_}
 use native.Mathlib.Nat.{mul-comm, le-trans}
 use borrow.Author.Needs.{sfits-of}
 use mir.Facts.{toZ-ofZ}
 use Rattle.figures.proofs.Holds.{held-i32, cast}
 use native.Mathlib.Omega.{arith}
 use lib.Dec.{lit≤}
-use lib.IntN.{ℤ}
+use lib.IntN.{ℤ, pos}
 use lib.ListN.{length, take, drop, length-take, length-drop}
 use mir.Syntax.{w32, w64}
 use mir.Val.{Fits, toZ, ofZ}
@@ -18,15 +18,16 @@ use Rattle.figures.specs.Ranges.{mostStep}
 use Rattle.words.specs.Words.{wordAt}
 use Rattle.words.proofs.PartWords.{part-is}
 use Rattle.contents.specs.declared.Place.{Place}
-use Rattle.contents.specs.Layout.{lastKind, mostBytes, widthOf, stepOf}
+use Rattle.contents.specs.Layout.{lastKind, mostBytes, widthOf, leastRows, stepOf}
 use Rattle.contents.specs.Entries.{rowsOf, placeOf}
 use Rattle.contents.specs.Contents.{numberOf, contentsOf}
-use Rattle.contents.proofs.Passing.{passed, rows-some}
+use Rattle.contents.proofs.Passing.{passed, rows-least}
 use Rattle.bodies.specs.Check.{checkOf}
 use Rattle.bodies.proofs.Sound.{passes-sound}
 use Rattle.bodies.proofs.Parts.{part-rows}
 use Rattle.reading.specs.Tables.{column, valueAt}
-use Rattle.reading.proofs.Within.{row-within, value-within}
+use Rattle.reading.specs.Rows.{NotNegative}
+use Rattle.reading.proofs.Within.{row-within}
 use Rattle.tables.specs.Figures.{figureOf, figureAt}
 
 -- a sheet that passes has contents that pass
@@ -42,6 +43,17 @@ step-most (suc (suc (suc (suc zero)))) h = lit≤ tt
 step-most (suc (suc (suc (suc (suc zero))))) h = lit≤ tt
 step-most (suc (suc (suc (suc (suc (suc zero)))))) h = lit≤ tt
 step-most (suc (suc (suc (suc (suc (suc (suc k))))))) h = absurd (omega arith)
+
+-- a kind with a step has two rows or more
+least-two : (kind : ℕ) → 0 < stepOf kind → 2 ≤ leastRows kind
+least-two zero h = absurd (omega arith)
+least-two (suc zero) h = absurd (omega arith)
+least-two (suc (suc zero)) h = lit≤ tt
+least-two (suc (suc (suc zero))) h = lit≤ tt
+least-two (suc (suc (suc (suc zero)))) h = lit≤ tt
+least-two (suc (suc (suc (suc (suc zero))))) h = lit≤ tt
+least-two (suc (suc (suc (suc (suc (suc zero)))))) h = lit≤ tt
+least-two (suc (suc (suc (suc (suc (suc (suc k))))))) h = absurd (omega arith)
 
 -- the bytes from word a, n words of them, as a part is cut
 abbrev pub cut : List ℕ → ℕ → ℕ → List ℕ
@@ -79,7 +91,7 @@ module _ (s : List ℕ) (kind : ℕ) (z : checkOf s .number ≡ 0) (l : 1 ≤ ki
     figure-is number i r ok q =
         cast (held-i32 r ok) tt .is ∙ q ∙ ap (λ (b : List ℕ). wordAt b (width * i + number)) (part-is s (p .start) (p .rows * width)) ∙ rw (e, w)
 
-    -- the value between rows
+    -- what a reading at an offset asks
     module _ (step : ℕ) (st : step ≡ stepOf kind) (some : 0 < stepOf kind) where
       pub step-some : 0 < step
       step-some = rw st some
@@ -87,21 +99,29 @@ module _ (s : List ℕ) (kind : ℕ) (z : checkOf s .number ≡ 0) (l : 1 ≤ ki
       pub step-small : step ≤ mostStep
       step-small = rw st (step-most kind h)
 
+      pub rows-two : 2 ≤ p .rows
+      rows-two = rw e (le-trans (least-two kind some) (rows-least s (contents-none s z) kind l h))
+
       module _ (number offset : ℕ) where
-        module _ (c : number < widthOf kind) (most : offset ≤ (rowsOf s kind - 1) * stepOf kind) where
-          asks : (4 * (width * (offset / step) + number) + 4 ≤ length (cut s (p .start) (p .rows * width)))
-              × (0 < offset % step → 4 * (width * (offset / step) + number + width) + 4 ≤ length (cut s (p .start) (p .rows * width)))
-          asks =
-              let rows : 0 < p .rows = rw e (rows-some s (contents-none s z) kind l h) in
-              value-within (cut s (p .start) (p .rows * width)) width number (p .rows) part-long (rw w c) step offset step-some rows (rw (e, st) most)
+        pub column-inside : number < widthOf kind → number < width
+        column-inside c = rw w c
 
-          pub this-asks : 4 * (width * (offset / step) + number) + 4 ≤ length (cut s (p .start) (p .rows * width))
-          this-asks = asks .0
+        pub offset-most : offset ≤ (rowsOf s kind - 1) * stepOf kind → offset ≤ (p .rows - 1) * step
+        offset-most most = rw (e, st) most
 
-          pub next-asks : 0 < offset % step → 4 * (width * (offset / step) + number + width) + 4 ≤ length (cut s (p .start) (p .rows * width))
-          next-asks = asks .1
+        lent-is : column (cut s (p .start) (p .rows * width)) width number ≡ figureOf s kind number
+        lent-is = ap (λ (b : List ℕ). column b width number) (part-is s (p .start) (p .rows * width)) ∙ rw (e, w)
 
+        pub lent-sizes : NotNegative (figureOf s kind number) (rowsOf s kind) → NotNegative (column (cut s (p .start) (p .rows * width)) width number) (p .rows)
+        lent-sizes all = rw (lent-is, e) all
+
+        lent-value : valueAt (column (cut s (p .start) (p .rows * width)) width number) step offset ≡ figureAt s kind number offset
+        lent-value = rw (lent-is, st)
+
+        -- and what it gives
         pub value-is : (r : ℤ) → mag r < 2 ^ 63 → r ≡ valueAt (column (cut s (p .start) (p .rows * width)) width number) step offset
             → toZ w64 (ofZ w64 r) ≡ figureAt s kind number offset
-        value-is r ok q =
-            toZ-ofZ (sfits-of ok) ∙ q ∙ ap (λ (b : List ℕ). valueAt (column b width number) step offset) (part-is s (p .start) (p .rows * width)) ∙ rw (e, w, st)
+        value-is r ok q = toZ-ofZ (sfits-of ok) ∙ q ∙ lent-value
+
+        pub size-is : (r : ℕ) → pos r ≡ valueAt (column (cut s (p .start) (p .rows * width)) width number) step offset → pos r ≡ figureAt s kind number offset
+        size-is r q = q ∙ lent-value

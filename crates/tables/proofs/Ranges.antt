@@ -1,12 +1,12 @@
 -- The figures of a sheet that passes keep their ranges, at its rows and between them; and y0 rises from row to row. Assumes nothing.
 use mathlib.Core.Path.{_≡_}
 use mathlib.Core.List.{List}
-use Prim.Native.Nat.{ℕ, _+_, _*_, _-_, _<_, _≤_}
+use Prim.Native.Nat.{ℕ, _+_, _*_, _-_, _<_, _≤_, zero-le}
 use native.Mathlib.Nat.{add-zero}
 use native.Mathlib.Omega.{arith}
 use borrow.Author.Tests.{le-leb}
 use lib.Dec.{lit<, lit≤}
-use lib.IntN.{pos, natAbs}
+use lib.IntN.{ℤ, pos, natAbs}
 use Rattle.figures.specs.Ranges.{mostH, mostV, mostA, mostB, mostC, mostP, mostM, mostD}
 use Rattle.figures.proofs.Sizes.{Size, times-most}
 use Rattle.rules.proofs.WhatPasses.{InRange, range-size, range-most}
@@ -17,7 +17,7 @@ use Rattle.contents.specs.Entries.{rowsOf, bodyOf}
 use Rattle.contents.proofs.Passing.{rows-some}
 use Rattle.bodies.specs.Check.{checkOf}
 use Rattle.bodies.proofs.Sound.{passes-sound, zone-rows, latitude-rows, longitude-rows, northing-rows, easting-rows, scale-rows}
-use Rattle.reading.specs.Rows.{RisesBy}
+use Rattle.reading.specs.Rows.{RisesBy, NotNegative}
 use Rattle.reading.proofs.Values.{value-most, value-size, value-slope}
 use Rattle.tables.specs.Figures.{figureOf, figureAt, centralMeridian, falseEasting, firstLatitude, y0Of, y0At, aAt, bAt, cAt, dAt, kAt}
 use Rattle.tables.proofs.Parts.{contents-none}
@@ -25,6 +25,11 @@ use Rattle.tables.proofs.Parts.{contents-none}
 -- a body of one word in a row
 one-word : {i : ℕ} → 1 * i + 0 ≡ i
 one-word = omega arith
+
+-- rows that are sizes are not negative
+all-sizes : (f : ℕ → ℤ) (n low high : ℕ) → ((i : ℕ) → i < n → Size low (f i) high) → NotNegative f n
+unfolding NotNegative
+all-sizes f n low high all i h = rw (all i h .is) (le-leb 0 (natAbs (f i)) zero-le)
 
 module _ (s : List ℕ) (z : checkOf s .number ≡ 0) where
   some : (kind : ℕ) → 1 ≤ kind → kind ≤ lastKind → 0 < rowsOf s kind
@@ -71,6 +76,19 @@ module _ (s : List ℕ) (z : checkOf s .number ≡ 0) where
         rw (this .is, next .is) (le-leb _ _ (up .1)),
       )
 
+  -- the columns in which no figure is negative
+  pub y0-rows : NotNegative (figureOf s latitude 1) (rowsOf s latitude)
+  unfolding figuresAt
+  y0-rows = all-sizes (figureOf s latitude 1) (rowsOf s latitude) 0 999_999_999 (λ i l. in-range i l .y0)
+
+  pub h-rows : NotNegative (figureOf s latitude 3) (rowsOf s latitude)
+  unfolding figuresAt
+  h-rows = all-sizes (figureOf s latitude 3) (rowsOf s latitude) 30_000_000 mostH (λ i l. in-range i l .h)
+
+  pub v-rows : NotNegative (figureOf s latitude 5) (rowsOf s latitude)
+  unfolding figuresAt
+  v-rows = all-sizes (figureOf s latitude 5) (rowsOf s latitude) 0 mostV (λ i l. in-range i l .v)
+
   module _ (t : ℕ) (h : t ≤ (rowsOf s latitude - 1) * stepOf latitude) where
     pub y0-between : Size 0 (y0At s t) 999_999_999
     unfolding y0At figuresAt
@@ -114,16 +132,26 @@ module _ (s : List ℕ) (z : checkOf s .number ≡ 0) where
         (λ i l. range-most mostC (figureOf s longitude 1 i) (longitude-rows s (passes-sound s z) i l .c-range))
 
   -- ---- northing
+  p-row : (i : ℕ) → i < rowsOf s northing → Size 0 (figureOf s northing 0 i) mostP
+  p-row i l = rw add-zero (range-size 0 _ mostP (northing-rows s (passes-sound s z) i l .p-range))
+
+  m-row : (i : ℕ) → i < rowsOf s northing → Size 0 (figureOf s northing 1 i) mostM
+  m-row i l = range-size 0 (figureOf s northing 1 i) mostM (northing-rows s (passes-sound s z) i l .m-range)
+
+  pub p-rows : NotNegative (figureOf s northing 0) (rowsOf s northing)
+  p-rows = all-sizes (figureOf s northing 0) (rowsOf s northing) 0 mostP p-row
+
+  pub m-rows : NotNegative (figureOf s northing 1) (rowsOf s northing)
+  m-rows = all-sizes (figureOf s northing 1) (rowsOf s northing) 0 mostM m-row
+
   module _ (y : ℕ) (h : y ≤ (rowsOf s northing - 1) * stepOf northing) where
     pub p-between : Size 0 (figureAt s northing 0 y) mostP
     p-between =
-        value-size (figureOf s northing 0) (rowsOf s northing) (stepOf northing) y (lit< tt) (some northing (omega arith) (omega arith)) h 0 mostP
-        (λ i l. rw add-zero (range-size 0 _ mostP (northing-rows s (passes-sound s z) i l .p-range)))
+        value-size (figureOf s northing 0) (rowsOf s northing) (stepOf northing) y (lit< tt) (some northing (omega arith) (omega arith)) h 0 mostP p-row
 
     pub m-between : Size 0 (figureAt s northing 1 y) mostM
     m-between =
-        value-size (figureOf s northing 1) (rowsOf s northing) (stepOf northing) y (lit< tt) (some northing (omega arith) (omega arith)) h 0 mostM
-        (λ i l. range-size 0 (figureOf s northing 1 i) mostM (northing-rows s (passes-sound s z) i l .m-range))
+        value-size (figureOf s northing 1) (rowsOf s northing) (stepOf northing) y (lit< tt) (some northing (omega arith) (omega arith)) h 0 mostM m-row
 
   -- ---- easting and scale
   pub d-between : (size : ℕ) → size ≤ (rowsOf s easting - 1) * stepOf easting → natAbs (dAt s size) ≤ mostD
@@ -132,8 +160,13 @@ module _ (s : List ℕ) (z : checkOf s .number ≡ 0) where
       value-most (λ i. figureOf s easting 0 i) (rowsOf s easting) (stepOf easting) size (lit< tt) (some easting (omega arith) (omega arith)) h mostD
       (λ i l. rw one-word (range-most mostD _ (easting-rows s (passes-sound s z) i l .d-range)))
 
+  k-row : (i : ℕ) → i < rowsOf s scale → Size 9_990_000 (figureOf s scale 0 i) 10_010_000
+  k-row i l = rw one-word (range-size 9_990_000 _ 10_010_000 (scale-rows s (passes-sound s z) i l .k-range))
+
+  pub k-rows : NotNegative (figureOf s scale 0) (rowsOf s scale)
+  k-rows = all-sizes (figureOf s scale 0) (rowsOf s scale) 9_990_000 10_010_000 k-row
+
   pub k-between : (size : ℕ) → size ≤ (rowsOf s scale - 1) * stepOf scale → Size 9_990_000 (kAt s size) 10_010_000
   unfolding kAt
   k-between size h =
-      value-size (λ i. figureOf s scale 0 i) (rowsOf s scale) (stepOf scale) size (lit< tt) (some scale (omega arith) (omega arith)) h 9_990_000 10_010_000
-      (λ i l. rw one-word (range-size 9_990_000 _ 10_010_000 (scale-rows s (passes-sound s z) i l .k-range)))
+      value-size (figureOf s scale 0) (rowsOf s scale) (stepOf scale) size (lit< tt) (some scale (omega arith) (omega arith)) h 9_990_000 10_010_000 k-row

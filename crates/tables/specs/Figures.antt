@@ -1,5 +1,5 @@
 -- A sheet's figures by name, at its rows and between them. s is the sheet.
--- A figure that its range keeps from being negative is a size, ℕ; a, b, c and d are ℤ. Columns count from 0, in the order of the table of kinds.
+-- H, V, P and M enter the steps as sizes, ℕ: their ranges keep them from being negative. The others are ℤ. Columns count from 0, in the order of the table of kinds.
 use mathlib.Core.List.{List}
 use Prim.Native.Nat.{ℕ}
 use lib.IntN.{ℤ, pos, natAbs, _*ℤ_}
@@ -22,7 +22,7 @@ centralMeridian s = figureOf s zone 0 0
 unfoldable pub falseEasting : List ℕ → ℤ
 falseEasting s = figureOf s zone 1 0
 
--- ---- latitude: "minute; y0 (0.01 ft); Δy; H (0.000001); ΔH; V (0.000001); ΔV; a (0.001)"
+-- ---- latitude: "minute; y0 (0.01 ft); Δy .. ; H (0.000001); ΔH .. ; V (0.000001); ΔV .. ; a (0.001)". The differences are not read.
 -- The latitude of row 0, in 0.001″, from its minute.
 unfoldable pub firstLatitude : List ℕ → ℤ
 firstLatitude s = figureOf s latitude 0 0 *ℤ pos (stepOf latitude)
@@ -31,7 +31,7 @@ firstLatitude s = figureOf s latitude 0 0 *ℤ pos (stepOf latitude)
 unfoldable pub y0Of : List ℕ → ℕ → ℤ
 y0Of s i = figureOf s latitude 1 i
 
--- At t, in 0.001″ of latitude from row 0: "From latitude take y0, H, V, a".
+-- At a distance t from row 0, in 0.001″ of latitude: "From latitude take y0, H, V, a".
 unfoldable pub y0At : List ℕ → ℕ → ℤ
 y0At s t = figureAt s latitude 1 t
 

@@ -10,7 +10,7 @@ ghost use Rattle.figures.specs.Ranges.{mostH, mostV, mostA, mostB, mostC, mostP
 ghost use Rattle.contents.specs.Layout.{lastKind, latitude, longitude, northing, easting, scale, widthOf, stepOf};
 ghost use Rattle.contents.specs.Entries.{rowsOf, placeOf, placesOf};
 ghost use Rattle.bodies.specs.Check.{checkOf};
-ghost use Rattle.reading.specs.Rows.{lastNotAbove};
+ghost use Rattle.reading.specs.Rows.{lastNotAbove, NotNegative};
 ghost use Rattle.tables.specs.Figures.{figureOf, figureAt, centralMeridian, falseEasting, firstLatitude, y0Of, y0At, hAt, vAt, aAt, bAt, cAt, pAt, mAt, dAt, kAt};
 
 // The figure in row i of a column of the kind, whose body is lent on as the part of the sheet that holds it.
@@ -33,7 +33,32 @@ fn figure_at(s: &[u8], place: Place, kind: usize, number: usize, offset: u64) ->
     let w = contents::width_of(kind);
     let a = 4 * place.start;
     let z = a + 4 * (place.rows * w);
-    reading::value_at(&s[a..z], w, number, contents::step_of(kind), offset)
+    reading::value_at(
+        &s[a..z],
+        w,
+        number,
+        place.rows,
+        contents::step_of(kind),
+        offset,
+    )
+}
+
+// The same of a column in which no figure is negative.
+fn size_at(s: &[u8], place: Place, kind: usize, number: usize, offset: u64) -> u64
+    requires { ⌜ (checkOf (now s) .number ≡ 0) × (place ≡ placeOf (now s) kind) × (1 ≤ kind) × (kind ≤ lastKind) × (0 < stepOf kind) × (number < widthOf kind) × (offset ≤ (rowsOf (now s) kind - 1) * stepOf kind) × NotNegative (figureOf (now s) kind number) (rowsOf (now s) kind) ⌝ }
+    ensures { λ r. ⌜ pos r ≡ figureAt (now (s .entry)) kind number offset ⌝ }
+{
+    let w = contents::width_of(kind);
+    let a = 4 * place.start;
+    let z = a + 4 * (place.rows * w);
+    reading::size_at(
+        &s[a..z],
+        w,
+        number,
+        place.rows,
+        contents::step_of(kind),
+        offset,
+    )
 }
 
 // The central meridian, in 0.001″.
@@ -85,7 +110,7 @@ pub fn y0_at(s: &[u8], p: Places, t: u64) -> i64
     requires { ⌜ (checkOf (now s) .number ≡ 0) × (p ≡ placesOf (now s)) × (t ≤ (rowsOf (now s) latitude - 1) * stepOf latitude) ⌝ }
     ensures { λ r. ⌜ (r ≡ y0At (now (s .entry)) t) × (natAbs r ≤ 999_999_999) ⌝ }
 {
-    figure_at(s, p.latitude, contents::LATITUDE, 1, t)
+    size_at(s, p.latitude, contents::LATITUDE, 1, t) as i64
 }
 
 // H at t from row 0, in 0.000001.
@@ -93,7 +118,7 @@ pub fn h_at(s: &[u8], p: Places, t: u64) -> u64
     requires { ⌜ (checkOf (now s) .number ≡ 0) × (p ≡ placesOf (now s)) × (t ≤ (rowsOf (now s) latitude - 1) * stepOf latitude) ⌝ }
     ensures { λ r. ⌜ (r ≡ hAt (now (s .entry)) t) × (30_000_000 ≤ r) × (r ≤ mostH) ⌝ }
 {
-    figure_at(s, p.latitude, contents::LATITUDE, 3, t) as u64
+    size_at(s, p.latitude, contents::LATITUDE, 3, t)
 }
 
 // V at t from row 0, in 0.000001.
@@ -101,7 +126,7 @@ pub fn v_at(s: &[u8], p: Places, t: u64) -> u64
     requires { ⌜ (checkOf (now s) .number ≡ 0) × (p ≡ placesOf (now s)) × (t ≤ (rowsOf (now s) latitude - 1) * stepOf latitude) ⌝ }
     ensures { λ r. ⌜ (r ≡ vAt (now (s .entry)) t) × (r ≤ mostV) ⌝ }
 {
-    figure_at(s, p.latitude, contents::LATITUDE, 5, t) as u64
+    size_at(s, p.latitude, contents::LATITUDE, 5, t)
 }
 
 // a at t from row 0, in 0.001.
@@ -133,7 +158,7 @@ pub fn p_at(s: &[u8], p: Places, y: u64) -> u64
     requires { ⌜ (checkOf (now s) .number ≡ 0) × (p ≡ placesOf (now s)) × (y ≤ (rowsOf (now s) northing - 1) * stepOf northing) ⌝ }
     ensures { λ r. ⌜ (r ≡ pAt (now (s .entry)) y) × (r ≤ mostP) ⌝ }
 {
-    figure_at(s, p.northing, contents::NORTHING, 0, y) as u64
+    size_at(s, p.northing, contents::NORTHING, 0, y)
 }
 
 // M at y, in 10⁻⁷.
@@ -141,7 +166,7 @@ pub fn m_at(s: &[u8], p: Places, y: u64) -> u64
     requires { ⌜ (checkOf (now s) .number ≡ 0) × (p ≡ placesOf (now s)) × (y ≤ (rowsOf (now s) northing - 1) * stepOf northing) ⌝ }
     ensures { λ r. ⌜ (r ≡ mAt (now (s .entry)) y) × (r ≤ mostM) ⌝ }
 {
-    figure_at(s, p.northing, contents::NORTHING, 1, y) as u64
+    size_at(s, p.northing, contents::NORTHING, 1, y)
 }
 
 // d at a size of x′, in 0.01 ft.
@@ -157,5 +182,5 @@ pub fn k_at(s: &[u8], p: Places, size: u64) -> i64
     requires { ⌜ (checkOf (now s) .number ≡ 0) × (p ≡ placesOf (now s)) × (size ≤ (rowsOf (now s) scale - 1) * stepOf scale) ⌝ }
     ensures { λ r. ⌜ (r ≡ kAt (now (s .entry)) size) × (natAbs r ≤ 10_010_000) ⌝ }
 {
-    figure_at(s, p.scale, contents::SCALE, 0, size)
+    size_at(s, p.scale, contents::SCALE, 0, size) as i64
 }

@@ -5,10 +5,10 @@ use Rattle.samples.proofs.judge_each.Statement.{statement}
 use Rattle.samples.proofs.judge_each.Tie as tie
 
 abbrev Inv-loop : tie.InvT-loop
-Inv-loop sheet₀ count i₀ sheet i = 1 ≤ i
+Inv-loop lines sheet₀ count i₀ sheet i = 1 ≤ i
 
 abbrev μ-loop : tie.MeasureT-loop
-μ-loop sheet₀ count i₀ sheet i = count - i
+μ-loop lines sheet₀ count i₀ sheet i = count - i
 
 returns : tie.Need-returns Inv-loop μ-loop
 returns c = search needs
@@ -27,6 +27,9 @@ loop-holds c = search needs
 
 judge-requires : tie.Need-judge-requires Inv-loop μ-loop
 judge-requires c κs = search needs
+
+convert-each-requires : tie.Need-convert-each-requires Inv-loop μ-loop
+convert-each-requires c κs = search needs
 
 add-i : tie.Need-add-i Inv-loop μ-loop
 add-i c = search needs
@@ -48,6 +51,7 @@ judge-each-spec =
     arg-count-requires
     loop-holds
     judge-requires
+    convert-each-requires
     add-i
     loop-less
     loop-again

@@ -1,6 +1,6 @@
 -- `tables::figure_at` meets its contract. Assumes nothing.
 use Rattle.bodies.proofs.Parts.{part-within, words-fit, start-fits, bytes-fit, end-fits}
-use Rattle.tables.proofs.Parts.{contents-none, step-some, step-small, this-asks, next-asks, value-is}
+use Rattle.tables.proofs.Parts.{contents-none, part-long, rows-two, column-inside, step-some, step-small, offset-most, value-is}
 use borrow.Author.Needs.{needs}
 use Rattle.tables.proofs.figure_at.Statement.{statement}
 use Rattle.tables.proofs.figure_at.Tie as tie
@@ -36,7 +36,7 @@ step-of-requires : tie.Need-step-of-requires
 step-of-requires c κs = search needs
 
 value-at-requires : tie.Need-value-at-requires
-value-at-requires c κs = search (step-some, step-small, this-asks, next-asks)
+value-at-requires c κs = search (rows-two, part-long, column-inside, step-some, step-small, offset-most)
 
 pub figure-at-spec : {M : Type 1} → statement M
 figure-at-spec =

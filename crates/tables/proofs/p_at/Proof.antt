@@ -1,8 +1,8 @@
 -- `tables::p_at` meets its contract. Assumes nothing.
 use Rattle.tables.specs.Figures.{pAt}
-use Rattle.tables.proofs.Ranges.{p-between}
+use Rattle.tables.proofs.Ranges.{p-between, p-rows}
 use Rattle.tables.proofs.ByName.{northing-place}
-use Rattle.tables.proofs.Answers.{size-is, size-fits, size-high}
+use Rattle.tables.proofs.Answers.{read-is, read-high}
 use borrow.Author.Needs.{needs}
 use Rattle.tables.proofs.p_at.Statement.{statement}
 use Rattle.tables.proofs.p_at.Tie as tie
@@ -12,15 +12,10 @@ unfolding pAt
 returns c =
     let p = c .before .before .pre in
     let h = p-between _ (p .0) _ (p .2) in
-    let ok = c .figure-at .ok in
-    let e = c .figure-at .ensures in
-    (size-is ok e h, size-high ok e h)
+    (read-is (c .size-at .ensures) h, read-high (c .size-at .ensures) h)
 
-figure-at-requires : tie.Need-figure-at-requires
-figure-at-requires c κs = search (northing-place, needs)
-
-cast-result : tie.Need-cast-result
-cast-result c = let p = c .before .before .pre in size-fits (c .figure-at .ok) (c .figure-at .ensures) (p-between _ (p .0) _ (p .2)) tt
+size-at-requires : tie.Need-size-at-requires
+size-at-requires c κs = search (northing-place, p-rows, needs)
 
 pub p-at-spec : {M : Type 1} → statement M
-p-at-spec = tie.close (tie.spec figure-at-requires cast-result returns)
+p-at-spec = tie.close (tie.spec size-at-requires returns)

@@ -1,0 +1,62 @@
+-- `reading::size_past_row` meets its contract. Assumes nothing.
+use Rattle.reading.proofs.Unsigned.{first-fits, second-fits, weights-fit, weights-most, sizes-between}
+use borrow.Author.Needs.{needs}
+use Rattle.reading.proofs.size_past_row.Statement.{statement}
+use Rattle.reading.proofs.size_past_row.Tie as tie
+
+returns : tie.Need-returns
+returns c = search (sizes-between, needs)
+
+mul-at : tie.Need-mul-at
+mul-at c = search needs
+
+add-at : tie.Need-add-at
+add-at c = search needs
+
+unsigned-word-requires : tie.Need-unsigned-word-requires
+unsigned-word-requires c κs = search needs
+
+cast-u : tie.Need-cast-u
+cast-u c = search needs
+
+add-unsigned-word : tie.Need-add-unsigned-word
+add-unsigned-word c = search needs
+
+unsigned-word-requires-2 : tie.Need-unsigned-word-requires-2
+unsigned-word-requires-2 c κs = search needs
+
+cast-next : tie.Need-cast-next
+cast-next c = search needs
+
+sub-nearest-size : tie.Need-sub-nearest-size
+sub-nearest-size c = search needs
+
+mul-nearest-size : tie.Need-mul-nearest-size
+mul-nearest-size c = search first-fits
+
+mul-nearest-size-2 : tie.Need-mul-nearest-size-2
+mul-nearest-size-2 c = search second-fits
+
+add-nearest-size : tie.Need-add-nearest-size
+add-nearest-size c = search weights-fit
+
+nearest-size-requires : tie.Need-nearest-size-requires
+nearest-size-requires c κs = search (weights-most, needs)
+
+pub size-past-row-spec : {M : Type 1} → statement M
+size-past-row-spec =
+    tie.close
+    (tie.spec
+    mul-at
+    add-at
+    unsigned-word-requires
+    cast-u
+    add-unsigned-word
+    unsigned-word-requires-2
+    cast-next
+    sub-nearest-size
+    mul-nearest-size
+    mul-nearest-size-2
+    add-nearest-size
+    nearest-size-requires
+    returns)

@@ -1,0 +1,109 @@
+-- `worked::show_reduction` meets its contract. Assumes nothing.
+use mathlib.Core.Path.{_∙_}
+use native.Mathlib.Nat.{le-trans}
+use lib.Dec.{lit≤}
+use lib.IntN.{natAbs}
+use denote.Ref.{now}
+use mir.Syntax.{w64}
+use mir.Val.{ofZ}
+use Rattle.figures.specs.Steps.{reduction}
+use Rattle.figures.proofs.Sizes.{size-nonNeg}
+use Rattle.figures.proofs.Holds.{Holds, difference-fits, unsigned-fits}
+use Rattle.tables.specs.Figures.{pAt, dAt}
+use Rattle.extent.proofs.Reach.{northing-reach, easting-span}
+use Rattle.extent.proofs.Points.{wide, wide-fits}
+use Rattle.convert.proofs.Longitudes.{reduction-worked, reduction-small}
+use Rattle.convert.proofs.Bits.{bits-is, bits-most, bits-hold}
+use borrow.Author.Needs.{needs}
+use Rattle.worked.proofs.show_reduction.Statement.{statement}
+use Rattle.worked.proofs.show_reduction.Tie as tie
+
+-- the reduction, as it was worked
+reduction-is : (c : tie.After-reduction)
+    → let args = c .before .before .before .before .args in
+    Holds w64 (ofZ w64 (c .reduction .result)) (reduction (pAt (now (args .s)) (natAbs (args .y))) (args .x) (dAt (now (args .s)) (args .x))) 8_100_100
+reduction-is c =
+    let start = c .before .before .before .before in
+    let p = start .pre in
+    let d = c .before .d-at in
+    let worked = reduction-worked _ _ _ (wide (start .fits .y) .is) (c .before .before .p-at .ensures .0) (bits-is (d .ok)) (d .ensures .0) in
+    bits-hold (c .reduction .ok) (c .reduction .ensures ∙ worked) (reduction-small _ (p .0) _ _ (p .2) (northing-reach _ _ (p .3) .high))
+
+returns : tie.Need-returns
+returns c = search needs
+
+cast-north : tie.Need-cast-north
+cast-north c = wide-fits (c .before .fits .y)
+
+cast-p-at : tie.Need-cast-p-at
+cast-p-at c = unsigned-fits (wide (c .before .fits .y)) (size-nonNeg (northing-reach _ _ (c .before .pre .3))) tt
+
+p-at-requires : tie.Need-p-at-requires
+p-at-requires c κs =
+    let p = c .before .pre in
+    (p .0, p .1, rw (wide (c .before .fits .y) .is) (northing-reach _ _ (p .3) .high))
+
+d-at-requires : tie.Need-d-at-requires
+d-at-requires c κs = search needs
+
+reduction-requires : tie.Need-reduction-requires
+reduction-requires c κs =
+    let p = c .before .before .before .pre in
+    (c .before .p-at .ensures .1, le-trans (p .2) (le-trans (easting-span _ (p .0)) (lit≤ tt)), bits-most (c .d-at .result) (c .d-at .ok) (c .d-at .ensures .1))
+
+slice-aggregate-print-size : tie.Need-slice-aggregate-print-size
+slice-aggregate-print-size c = search needs
+
+print-size-requires : tie.Need-print-size-requires
+print-size-requires c κs = search needs
+
+slice-aggregate-print-figure : tie.Need-slice-aggregate-print-figure
+slice-aggregate-print-figure c = search needs
+
+print-figure-requires : tie.Need-print-figure-requires
+print-figure-requires c κs = search needs
+
+slice-aggregate-print-figure-2 : tie.Need-slice-aggregate-print-figure-2
+slice-aggregate-print-figure-2 c = search needs
+
+print-figure-requires-2 : tie.Need-print-figure-requires-2
+print-figure-requires-2 c κs = search needs
+
+slice-aggregate-print-figure-3 : tie.Need-slice-aggregate-print-figure-3
+slice-aggregate-print-figure-3 c = search needs
+
+sub-print-figure : tie.Need-sub-print-figure
+sub-print-figure c =
+    let worked = c .before .before .before .before .before .before .before in
+    difference-fits (wide (worked .before .before .before .before .fits .y)) (reduction-is worked) tt
+
+print-figure-requires-3 : tie.Need-print-figure-requires-3
+print-figure-requires-3 c κs = search needs
+
+slice-aggregate-print : tie.Need-slice-aggregate-print
+slice-aggregate-print c = search needs
+
+print-requires : tie.Need-print-requires
+print-requires c κs = search needs
+
+pub show-reduction-spec : {M : Type 1} → statement M
+show-reduction-spec =
+    tie.close
+    (tie.spec
+    cast-north
+    cast-p-at
+    p-at-requires
+    d-at-requires
+    reduction-requires
+    slice-aggregate-print-size
+    print-size-requires
+    slice-aggregate-print-figure
+    print-figure-requires
+    slice-aggregate-print-figure-2
+    print-figure-requires-2
+    slice-aggregate-print-figure-3
+    sub-print-figure
+    print-figure-requires-3
+    slice-aggregate-print
+    print-requires
+    returns)
