@@ -6,5 +6,6 @@ pub mod Tests
 pub mod Holds
 pub mod Rounding
 pub mod Interval
+pub mod Raised
 pub mod Splitting
 pub mod StepBounds

@@ -7,3 +7,7 @@ use Rattle.figures.specs.Nearest.{nearest}
 -- As one fraction over S: (u·S + (w − u)·t)/S. The value has the rows' unit; t and S share another.
 unfoldable pub between : ℤ → ℤ → ℕ → ℕ → ℤ
 between u w t step = nearest (u *ℤ pos step +ℤ (w -ℤ u) *ℤ pos t) step
+
+-- A figure from its word without a sign, raised by 2³¹: every figure of a word is a size then.
+unfoldable pub lowered : ℕ → ℤ
+lowered n = pos n -ℤ pos 2_147_483_648

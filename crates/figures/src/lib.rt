@@ -3,7 +3,7 @@ ghost use mathlib.Core.Path.{_≡_};
 ghost use Prim.Native.Nat.{_+_, _*_, _^_, _<_, _≤_};
 ghost use lib.IntN.{natAbs};
 ghost use Rattle.figures.specs.Nearest.{withSign, nearestSize, nearest};
-ghost use Rattle.figures.specs.Between.{between};
+ghost use Rattle.figures.specs.Between.{between, lowered};
 ghost use Rattle.figures.specs.Ranges.{mostH, mostV, mostA, mostB, mostC, mostP, mostM, mostD, mostS, mostQ, mostX, mostWord, mostRow, mostStep, mostGap, mostScale, mostNumerator, mostDivisor};
 ghost use Rattle.figures.specs.Steps.{qOf, sizeOfX, rise, reduction, seconds, approximateL, sizeOfL, convergence, perSecond};
 ghost use Rattle.figures.specs.Wide.{towardZero};
@@ -40,12 +40,16 @@ pub fn nearest(n: i64, d: u64) -> i64
     with_sign(n, nearest_size(size(n), d) as i64)
 }
 
-// The value between rows u and w of a step, at an offset t up to it, rounded once.
-pub fn between(u: i64, w: i64, t: u64, step: u64) -> i64
-    requires { ⌜ (natAbs u ≤ mostRow) × (natAbs w ≤ mostRow) × (t ≤ step) × (step ≤ mostStep) × (0 < step) ⌝ }
-    ensures { λ r. ⌜ r ≡ between u w t step ⌝ }
+// What a row's figure is raised by, so that it is read without a sign.
+const RAISED: u64 = 2_147_483_648;
+
+// The value between two rows of a step, at an offset t up to it, rounded once. u and w are the rows' figures, each raised.
+pub fn between(u: u64, w: u64, t: u64, step: u64) -> i64
+    requires { ⌜ (u ≤ mostRow) × (w ≤ mostRow) × (t ≤ step) × (step ≤ mostStep) × (0 < step) ⌝ }
+    ensures { λ r. ⌜ r ≡ between (lowered u) (lowered w) t step ⌝ }
 {
-    nearest(u * (step as i64) + (w - u) * (t as i64), step)
+    let weighed = u * (step - t) + w * t;
+    nearest((weighed as i64) - ((RAISED * step) as i64), step)
 }
 
 // q = (s/100)², in 0.001, of s in 0.001″.

@@ -91,6 +91,13 @@ row2048 = record {
   printed = pos 17_378 ∷ pos 0 ∷ pos 9 ∷ [];
 }
 
+-- At 20°48′30″ the rows give H 94.873920; the misprinted per-second column would give 94.873922.
+unfoldable pub h2048 : Case
+h2048 = record {
+  worked = between (pos 94_879_133) (pos 94_868_706) 30_000 60_000 ∷ [];
+  printed = pos 94_873_920 ∷ [];
+}
+
 -- Case sheet, y 50,000 ft: M 0.0038423, a half between 0.0038150 at 0 ft and 0.0038695 at 100,000 ft.
 unfoldable pub halfM : Case
 halfM = record {
@@ -127,4 +134,4 @@ listingP = record {
 
 -- The list.
 unfoldable pub starred : List Case
-starred = harvey ∷ kahela ∷ kahelaBack ∷ irish ∷ irishBack ∷ naper ∷ row2048 ∷ halfM ∷ halfA ∷ minute31 ∷ listingG ∷ listingP ∷ []
+starred = harvey ∷ kahela ∷ kahelaBack ∷ irish ∷ irishBack ∷ naper ∷ row2048 ∷ h2048 ∷ halfM ∷ halfA ∷ minute31 ∷ listingG ∷ listingP ∷ []

@@ -16,9 +16,12 @@ fn past_row(b: &[u8], w: usize, c: usize, i: usize, t: u64, step: u64) -> i64
     ensures { λ r. ⌜ r ≡ pastRow (column (now (b .entry)) w c) i t step ⌝ }
 {
     let at = w * i + c;
-    let u = words::word(b, at) as i64;
-    let next = words::word(b, at + w) as i64;
-    figures::between(u, next, t, step)
+    figures::between(
+        words::raised_word(b, at),
+        words::raised_word(b, at + w),
+        t,
+        step,
+    )
 }
 
 // The same where no figure of the column is negative: the words are read without a sign.

@@ -1,21 +1,22 @@
 -- A kind's body as it is lent to those who read it: the part of the sheet that the contents say, with every word that a row or a value between rows asks for.
 -- Assumes nothing.
-use mathlib.Core.Path.{_≡_, ap, _∙_}
+use mathlib.Core.Path.{_≡_, sym, ap, _∙_}
+use mathlib.Core.Bool.{true}
 use mathlib.Core.List.{List}
 use Prim.Native.Nat.{ℕ, zero, suc, _+_, _*_, _-_, _^_, _<_, _≤_}
-use native.Mathlib.Nat.{mul-comm, le-trans}
+use native.Mathlib.Nat.{mul-comm, le-trans, le-of-lt}
 use borrow.Author.Needs.{sfits-of}
 use mir.Facts.{toZ-ofZ}
-use Rattle.figures.proofs.Holds.{held-i32, cast}
+use Rattle.figures.proofs.Holds.{held-size}
 use native.Mathlib.Omega.{arith}
 use lib.Dec.{lit≤}
 use lib.IntN.{ℤ, pos}
 use lib.ListN.{length, take, drop, length-take, length-drop}
-use mir.Syntax.{w32, w64}
+use mir.Syntax.{w64}
 use mir.Val.{Fits, toZ, ofZ}
-use lib.Signed.{mag}
+use lib.Signed.{mag, leZ}
 use Rattle.figures.specs.Ranges.{mostStep}
-use Rattle.words.specs.Words.{wordAt}
+use Rattle.words.specs.Words.{unsignedAt, wordAt}
 use Rattle.words.proofs.PartWords.{part-is}
 use Rattle.contents.specs.declared.Place.{Place}
 use Rattle.contents.specs.Layout.{lastKind, mostBytes, widthOf, leastRows, stepOf}
@@ -28,6 +29,7 @@ use Rattle.bodies.proofs.Parts.{part-rows}
 use Rattle.reading.specs.Tables.{column, valueAt}
 use Rattle.reading.specs.Rows.{NotNegative}
 use Rattle.reading.proofs.Within.{row-within}
+use Rattle.reading.proofs.Unsigned.{word-size}
 use Rattle.tables.specs.Figures.{figureOf, figureAt}
 
 -- a sheet that passes has contents that pass
@@ -85,11 +87,16 @@ module _ (s : List ℕ) (kind : ℕ) (z : checkOf s .number ≡ 0) (l : 1 ≤ ki
       pub word-fits : Fits w64 (width * i + number)
       word-fits = record { fits = omega (arith, small) }
 
-    -- the figure in row i
-    pub figure-is : (number i : ℕ) (r : ℤ) → mag r < 2 ^ 31 → r ≡ wordAt (cut s (p .start) (p .rows * width)) (width * i + number)
-        → toZ w64 (ofZ w64 (toZ w32 (ofZ w32 r))) ≡ figureOf s kind number i
-    figure-is number i r ok q =
-        cast (held-i32 r ok) tt .is ∙ q ∙ ap (λ (b : List ℕ). wordAt b (width * i + number)) (part-is s (p .start) (p .rows * width)) ∙ rw (e, w)
+    -- the figure in row i, which is not negative, from its word without a sign
+    module _ (number i n : ℕ) (q : n ≡ unsignedAt (cut s (p .start) (p .rows * width)) (width * i + number)) (small : n < 4_294_967_296)
+        (sign : leZ (pos 0) (figureOf s kind number i) ≡ true) where
+      figure-word : wordAt (cut s (p .start) (p .rows * width)) (width * i + number) ≡ figureOf s kind number i
+      figure-word = ap (λ (b : List ℕ). wordAt b (width * i + number)) (part-is s (p .start) (p .rows * width)) ∙ rw (e, w)
+
+      pub figure-is : toZ w64 n ≡ figureOf s kind number i
+      figure-is =
+          let size = word-size (cut s (p .start) (p .rows * width)) (width * i + number) n q small (rw figure-word sign) in
+          held-size w64 (le-of-lt small) tt .is ∙ sym size ∙ figure-word
 
     -- what a reading at an offset asks
     module _ (step : ℕ) (st : step ≡ stepOf kind) (some : 0 < stepOf kind) where

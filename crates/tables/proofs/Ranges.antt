@@ -1,5 +1,6 @@
 -- The figures of a sheet that passes keep their ranges, at its rows and between them; and y0 rises from row to row. Assumes nothing.
 use mathlib.Core.Path.{_≡_}
+use mathlib.Core.Bool.{true}
 use mathlib.Core.List.{List}
 use Prim.Native.Nat.{ℕ, _+_, _*_, _-_, _<_, _≤_, zero-le}
 use native.Mathlib.Nat.{add-zero}
@@ -7,6 +8,7 @@ use native.Mathlib.Omega.{arith}
 use borrow.Author.Tests.{le-leb}
 use lib.Dec.{lit<, lit≤}
 use lib.IntN.{ℤ, pos, natAbs}
+use lib.Signed.{leZ}
 use Rattle.figures.specs.Ranges.{mostH, mostV, mostA, mostB, mostC, mostP, mostM, mostD}
 use Rattle.figures.proofs.Sizes.{Size, times-most}
 use Rattle.rules.proofs.WhatPasses.{InRange, range-size, range-most}
@@ -26,10 +28,14 @@ use Rattle.tables.proofs.Parts.{contents-none}
 one-word : {i : ℕ} → 1 * i + 0 ≡ i
 one-word = omega arith
 
+-- a size is not negative
+not-below : {low high : ℕ} (x : ℤ) → Size low x high → leZ (pos 0) x ≡ true
+not-below x h = rw (h .is) (le-leb 0 (natAbs x) zero-le)
+
 -- rows that are sizes are not negative
 all-sizes : (f : ℕ → ℤ) (n low high : ℕ) → ((i : ℕ) → i < n → Size low (f i) high) → NotNegative f n
 unfolding NotNegative
-all-sizes f n low high all i h = rw (all i h .is) (le-leb 0 (natAbs (f i)) zero-le)
+all-sizes f n low high all i h = not-below (f i) (all i h)
 
 module _ (s : List ℕ) (z : checkOf s .number ≡ 0) where
   some : (kind : ℕ) → 1 ≤ kind → kind ≤ lastKind → 0 < rowsOf s kind
@@ -50,6 +56,15 @@ module _ (s : List ℕ) (z : checkOf s .number ≡ 0) where
   unfolding falseEasting
   easting-size = range-size 0 (figureOf s zone 1 0) 100_000_000 (zone-rows s (passes-sound s z) 0 zone-some .false-easting)
 
+  -- none of these is negative
+  pub central-sign : leZ (pos 0) (figureOf s zone 0 0) ≡ true
+  unfolding centralMeridian
+  central-sign = not-below (figureOf s zone 0 0) central-size
+
+  pub easting-sign : leZ (pos 0) (figureOf s zone 1 0) ≡ true
+  unfolding falseEasting
+  easting-sign = not-below (figureOf s zone 1 0) easting-size
+
   -- ---- latitude
   pub minute-size : Size 0 (figureOf s latitude 0 0) 5_400
   minute-size = minute-in-range (bodyOf s latitude) (rowsOf s latitude) (latitude-rows s (passes-sound s z)) 0 latitude-some
@@ -64,6 +79,13 @@ module _ (s : List ℕ) (z : checkOf s .number ≡ 0) where
   pub y0-size : (i : ℕ) → i < rowsOf s latitude → Size 0 (y0Of s i) 999_999_999
   unfolding y0Of figuresAt
   y0-size i h = in-range i h .y0
+
+  pub minute-sign : leZ (pos 0) (figureOf s latitude 0 0) ≡ true
+  minute-sign = not-below (figureOf s latitude 0 0) minute-size
+
+  pub y0-sign : (i : ℕ) → i < rowsOf s latitude → leZ (pos 0) (figureOf s latitude 1 i) ≡ true
+  unfolding y0Of
+  y0-sign i h = not-below (figureOf s latitude 1 i) (y0-size i h)
 
   -- y0 rises by 600,000 to 615,000 from a row to the next
   pub y0-rises : RisesBy (y0Of s) (rowsOf s latitude) 600_000 615_000

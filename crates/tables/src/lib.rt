@@ -13,16 +13,16 @@ ghost use Rattle.bodies.specs.Check.{checkOf};
 ghost use Rattle.reading.specs.Rows.{lastNotAbove, NotNegative};
 ghost use Rattle.tables.specs.Figures.{figureOf, figureAt, centralMeridian, falseEasting, firstLatitude, y0Of, y0At, hAt, vAt, aAt, bAt, cAt, pAt, mAt, dAt, kAt};
 
-// The figure in row i of a column of the kind, whose body is lent on as the part of the sheet that holds it.
+// The figure in row i of a column of the kind, where it is not negative. The body is lent on as the part of the sheet that holds it.
 fn figure_of(s: &[u8], place: Place, kind: usize, number: usize, i: usize) -> i64
-    requires { ⌜ (checkOf (now s) .number ≡ 0) × (place ≡ placeOf (now s) kind) × (1 ≤ kind) × (kind ≤ lastKind) × (number < widthOf kind) × (i < rowsOf (now s) kind) ⌝ }
+    requires { ⌜ (checkOf (now s) .number ≡ 0) × (place ≡ placeOf (now s) kind) × (1 ≤ kind) × (kind ≤ lastKind) × (number < widthOf kind) × (i < rowsOf (now s) kind) × (leZ (pos 0) (figureOf (now s) kind number i) ≡ true) ⌝ }
     ensures { λ r. ⌜ r ≡ figureOf (now (s .entry)) kind number i ⌝ }
 {
     let w = contents::width_of(kind);
     let a = 4 * place.start;
     let z = a + 4 * (place.rows * w);
     let b = &s[a..z];
-    words::word(b, w * i + number) as i64
+    words::unsigned_word(b, w * i + number) as i64
 }
 
 // The figure of a column of the kind at an offset from row 0.

@@ -2,7 +2,7 @@
 -- Assumes nothing.
 use mathlib.Core.Path.{_≡_, refl, sym, ap, subst, _∙_}
 use mathlib.Core.Bool.{Bool, true, false, _&&_}
-use Prim.Native.Nat.{ℕ, suc, _-_, _≤_, _<_, zero-le}
+use Prim.Native.Nat.{ℕ, suc, _+_, _-_, _%_, _≤_, _<_, zero-le}
 use native.Mathlib.Decide.{decLt}
 use native.Mathlib.Omega.{arith}
 use lib.Dec.{T, leb}
@@ -12,7 +12,8 @@ use lib.Signed.{ltZ, leZ}
 use mir.Syntax.{w32}
 use mir.Val.{SFits, toZ, ofZ}
 use mir.Facts.{toZ-ofZ, fits-ofZ, sfits-toZ}
-use Rattle.figures.proofs.Sizes.{subℕ-le, subℕ-lt}
+use Rattle.figures.specs.Between.{lowered}
+use Rattle.figures.proofs.Sizes.{pos-minus, subℕ-le, subℕ-lt}
 use Rattle.words.specs.Words.{signed32, bits32}
 
 -- ---- the two readings are the machine's own
@@ -80,3 +81,24 @@ module _ (n : ℕ) (small : n < 4_294_967_296) where
       by-half : Dec (n < 2_147_483_648) → n ≡ k
       by-half (yes l) = ap natAbs (sym (signed32-low l) ∙ e)
       by-half (no l) = let z : negsuc (4_294_967_295 - n) ≡ pos k = sym (signed32-below {n = n} (omega arith) small) ∙ e in cc
+
+-- the bits raised by 2³¹, lowered again
+pub raised-lowered : (n : ℕ) → n < 4_294_967_296 → lowered ((n + 2_147_483_648) % 4_294_967_296) ≡ signed32 n
+unfolding lowered
+raised-lowered n small = pick (decLt n 2_147_483_648)
+  where
+    pick : Dec (n < 2_147_483_648) → pos ((n + 2_147_483_648) % 4_294_967_296) -ℤ pos 2_147_483_648 ≡ signed32 n
+    pick (yes l) =
+        let up : (n + 2_147_483_648) % 4_294_967_296 ≡ n + 2_147_483_648 = omega arith in
+        ap (λ (m : ℕ). pos m -ℤ pos 2_147_483_648) up
+        ∙ pos-minus (n + 2_147_483_648) 2_147_483_648
+        ∙ subℕ-le {a = n + 2_147_483_648} {b = 2_147_483_648} (omega arith)
+        ∙ ap pos {y = n} (omega arith)
+        ∙ sym (signed32-low l)
+    pick (no l) =
+        let down : (n + 2_147_483_648) % 4_294_967_296 ≡ n - 2_147_483_648 = omega arith in
+        ap (λ (m : ℕ). pos m -ℤ pos 2_147_483_648) down
+        ∙ pos-minus (n - 2_147_483_648) 2_147_483_648
+        ∙ subℕ-lt {a = n - 2_147_483_648} {b = 2_147_483_648} (omega arith)
+        ∙ ap negsuc {y = 4_294_967_295 - n} (omega arith)
+        ∙ sym (signed32-below (omega arith) small)

@@ -2,6 +2,7 @@
 ghost use mathlib.Core.Path.{_≡_};
 ghost use Prim.Native.Nat.{_+_, _*_, _<_, _≤_};
 ghost use lib.ListN.{length};
+ghost use Rattle.figures.specs.Between.{lowered};
 ghost use Rattle.words.specs.Words.{unsignedAt, wordAt, bits32, putWord};
 
 // A fault's number, and the place that has it: a row, or an entry, counted from 0. No fault is 0 0.
@@ -37,6 +38,14 @@ pub fn word(s: &[u8], i: usize) -> i32
     } else {
         ((n as i64) - 4_294_967_296) as i32
     }
+}
+
+// Word i raised by 2³¹, and so never negative.
+pub fn raised_word(s: &[u8], i: usize) -> u64
+    requires { ⌜ 4 * i + 4 ≤ length (now s) ⌝ }
+    ensures { λ r. ⌜ (lowered r ≡ wordAt (now (s .entry)) i) × (r < 4_294_967_296) ⌝ }
+{
+    ((unsigned_word(s, i) as u64) + 2_147_483_648) % 4_294_967_296
 }
 
 // The bits of v, as a number.

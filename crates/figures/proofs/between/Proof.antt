@@ -1,66 +1,66 @@
--- `figures::between` meets its contract, for every step. Assumes nothing.
-use borrow.Author.Needs.{needs}
+-- `figures::between` meets its contract. Assumes nothing.
+use mathlib.Core.Path.{_∙_}
+use Prim.Native.Nat.{_+_, _*_, _-_}
 use native.Mathlib.Omega.{arith}
 use lib.IntN.{pos}
 use mir.Syntax.{w64}
-use mir.Val.{ofZ}
-use Rattle.figures.specs.Between.{between}
-use Rattle.figures.specs.Ranges.{mostRow, mostStep}
-use Rattle.figures.proofs.Holds.{Holds, held, held-size, sum-fits, sum, difference-fits, difference, product-fits, product, size-most}
+use Rattle.figures.proofs.Holds.{Holds, held-size, difference, difference-fits, size-most}
 use Rattle.figures.proofs.Rounding.{rounded}
+use Rattle.figures.proofs.Raised.{weighed-most, first-fits, second-fits, weighed-fits, between-raised}
+use borrow.Author.Needs.{needs}
 use Rattle.figures.proofs.between.Statement.{statement}
 use Rattle.figures.proofs.between.Tie as tie
 
 module _ (c : tie.Start) where
-  u : Holds w64 (ofZ w64 (c .args .u)) (c .args .u) mostRow
-  u = held (c .fits .u) (c .pre .0)
+  weighed : Holds w64 (c .args .u * (c .args .step - c .args .t) + c .args .w * c .args .t) (pos (c .args .u * (c .args .step - c .args .t) + c .args .w * c .args .t)) 2_000_000_000_000_000_000
+  weighed = held-size w64 (weighed-most (c .args .u) (c .args .w) (c .args .t) (c .args .step) (c .pre .0) (c .pre .1) (c .pre .2) (c .pre .3)) tt
 
-  w : Holds w64 (ofZ w64 (c .args .w)) (c .args .w) mostRow
-  w = held (c .fits .w) (c .pre .1)
-
-  step : Holds w64 (c .args .step) (pos (c .args .step)) mostStep
-  step = held-size w64 (c .pre .3) tt
-
-  t : Holds w64 (c .args .t) (pos (c .args .t)) mostStep
-  t = held-size w64 (omega arith) tt
+  raised : Holds w64 (2_147_483_648 * c .args .step) (pos (2_147_483_648 * c .args .step)) 214_748_364_800_000_000
+  raised = held-size w64 (let h = c .pre .3 in omega arith) tt
 
 returns : tie.Need-returns
-unfolding between
 returns c =
-    let b = c .before in
-    rounded (b .args .step) (sum (product (u b) (step b) tt) (product (difference (w b) (u b) tt) (t b) tt) tt) (c .nearest .ok) (c .nearest .ensures)
+    let a = c .before .args in
+    rounded (a .step) (difference (weighed (c .before)) (raised (c .before)) tt) (c .nearest .ok) (c .nearest .ensures) ∙ between-raised (a .t) (a .step) (c .before .pre .2) (a .u) (a .w)
+
+sub-weighed : tie.Need-sub-weighed
+sub-weighed c = search needs
+
+mul-weighed : tie.Need-mul-weighed
+mul-weighed c = search first-fits
+
+mul-weighed-2 : tie.Need-mul-weighed-2
+mul-weighed-2 c = search second-fits
+
+add-weighed : tie.Need-add-weighed
+add-weighed c = search weighed-fits
 
 cast-nearest : tie.Need-cast-nearest
-cast-nearest c = search needs
+cast-nearest c = record { sfits = omega (arith, weighed c .size) }
 
 mul-nearest : tie.Need-mul-nearest
-mul-nearest c = product-fits (u c) (step c) tt
-
-sub-nearest : tie.Need-sub-nearest
-sub-nearest c = difference-fits (w c) (u c) tt
+mul-nearest c = search needs
 
 cast-nearest-2 : tie.Need-cast-nearest-2
-cast-nearest-2 c = search needs
+cast-nearest-2 c = record { sfits = omega (arith, raised c .size) }
 
-mul-nearest-2 : tie.Need-mul-nearest-2
-mul-nearest-2 c = product-fits (difference (w c) (u c) tt) (t c) tt
-
-add-nearest : tie.Need-add-nearest
-add-nearest c = sum-fits (product (u c) (step c) tt) (product (difference (w c) (u c) tt) (t c) tt) tt
+sub-nearest : tie.Need-sub-nearest
+sub-nearest c = difference-fits (weighed c) (raised c) tt
 
 nearest-requires : tie.Need-nearest-requires
-nearest-requires c κs =
-    (size-most (sum (product (u c) (step c) tt) (product (difference (w c) (u c) tt) (t c) tt) tt) tt, omega arith, omega arith)
+nearest-requires c κs = (size-most (difference (weighed c) (raised c) tt) tt, c .pre .4, let h = c .pre .3 in omega arith)
 
 pub between-spec : {M : Type 1} → statement M
 between-spec =
     tie.close
     (tie.spec
+    sub-weighed
+    mul-weighed
+    mul-weighed-2
+    add-weighed
     cast-nearest
     mul-nearest
-    sub-nearest
     cast-nearest-2
-    mul-nearest-2
-    add-nearest
+    sub-nearest
     nearest-requires
     returns)

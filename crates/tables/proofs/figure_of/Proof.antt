@@ -1,5 +1,4 @@
 -- `tables::figure_of` meets its contract. Assumes nothing.
-use Rattle.figures.proofs.Holds.{held-i32, cast-fits}
 use Rattle.bodies.proofs.Parts.{part-within, words-fit, start-fits, bytes-fit, end-fits}
 use Rattle.tables.proofs.Parts.{contents-none, row-fits, word-fits, word-asks, figure-is}
 use borrow.Author.Needs.{needs}
@@ -33,17 +32,17 @@ part-b-start c = search needs
 part-b-end : tie.Need-part-b-end
 part-b-end c = search (part-within, contents-none)
 
-mul-word : tie.Need-mul-word
-mul-word c = search row-fits
+mul-unsigned-word : tie.Need-mul-unsigned-word
+mul-unsigned-word c = search row-fits
 
-add-word : tie.Need-add-word
-add-word c = search word-fits
+add-unsigned-word : tie.Need-add-unsigned-word
+add-unsigned-word c = search word-fits
 
-word-requires : tie.Need-word-requires
-word-requires c κs = search word-asks
+unsigned-word-requires : tie.Need-unsigned-word-requires
+unsigned-word-requires c κs = search word-asks
 
 cast-result : tie.Need-cast-result
-cast-result c = cast-fits (held-i32 (c .word .result) (c .word .ok)) tt
+cast-result c = search needs
 
 pub figure-of-spec : {M : Type 1} → statement M
 figure-of-spec =
@@ -57,8 +56,8 @@ figure-of-spec =
     sub-b
     part-b-start
     part-b-end
-    mul-word
-    add-word
-    word-requires
+    mul-unsigned-word
+    add-unsigned-word
+    unsigned-word-requires
     cast-result
     returns)

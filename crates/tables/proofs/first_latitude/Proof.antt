@@ -5,7 +5,7 @@ use mir.Val.{ofZ}
 use lib.IntN.{ℤ, pos, _*ℤ_}
 use Rattle.figures.proofs.Holds.{Holds, held-result, held-literal, product, product-fits}
 use Rattle.tables.specs.Figures.{firstLatitude}
-use Rattle.tables.proofs.Ranges.{latitude-some, minute-size, first-most}
+use Rattle.tables.proofs.Ranges.{latitude-some, minute-size, minute-sign, first-most}
 use Rattle.tables.proofs.ByName.{latitude-place}
 use borrow.Author.Needs.{needs}
 use Rattle.tables.proofs.first_latitude.Statement.{statement}
@@ -23,7 +23,7 @@ returns c =
     (is, rw is (first-most _ (c .before .before .pre .0)))
 
 figure-of-requires : tie.Need-figure-of-requires
-figure-of-requires c κs = search (latitude-place, latitude-some, needs)
+figure-of-requires c κs = search (latitude-place, latitude-some, minute-sign, needs)
 
 mul-result : tie.Need-mul-result
 mul-result c = product-fits (minute c) (held-literal w64 60_000 tt) tt

@@ -1,6 +1,6 @@
 -- `tables::y0_of` meets its contract. Assumes nothing.
 use Rattle.tables.specs.Figures.{y0Of}
-use Rattle.tables.proofs.Ranges.{y0-size}
+use Rattle.tables.proofs.Ranges.{y0-sign, y0-size}
 use Rattle.tables.proofs.ByName.{latitude-place}
 use Rattle.tables.proofs.Answers.{signed-is}
 use borrow.Author.Needs.{needs}
@@ -12,7 +12,7 @@ unfolding y0Of
 returns c = let p = c .before .before .pre in signed-is (c .figure-of .ok) (c .figure-of .ensures) (y0-size _ (p .0) _ (p .2) .high)
 
 figure-of-requires : tie.Need-figure-of-requires
-figure-of-requires c κs = search (latitude-place, needs)
+figure-of-requires c κs = search (latitude-place, y0-sign, needs)
 
 pub y0-of-spec : {M : Type 1} → statement M
 y0-of-spec = tie.close (tie.spec figure-of-requires returns)

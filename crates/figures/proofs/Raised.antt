@@ -1,0 +1,65 @@
+-- Reading between rows whose figures are raised by one number: the sum of the rows, weighed, is raised by that number times the step. Assumes nothing.
+use mathlib.Core.Path.{_≡_, sym, ap, _∙_}
+use Prim.Native.Nat.{ℕ, _+_, _*_, _-_, _≤_}
+use native.Mathlib.Omega.{arith}
+use lib.IntN.{ℤ, pos, negℤ, _+ℤ_, _-ℤ_, _*ℤ_, +ℤ-assoc, +ℤ-idr, +ℤ-invr, -ℤ-+ℤ-cancel}
+use mir.Syntax.{w64}
+use mir.Val.{Fits}
+use Rattle.figures.specs.Nearest.{nearest}
+use Rattle.figures.specs.Between.{between, lowered}
+use Rattle.figures.specs.Ranges.{mostRow, mostStep}
+use Rattle.figures.proofs.Ring.{times-sum, sum-times, swap-last}
+use Rattle.figures.proofs.Sizes.{product-most}
+use Rattle.figures.proofs.Interval.{between-weighed}
+
+-- (y + z) − z = y
+taken-back : (y z : ℤ) → (y +ℤ z) -ℤ z ≡ y
+taken-back y z = +ℤ-assoc y z (negℤ z) ∙ ap (λ (x : ℤ). y +ℤ x) (+ℤ-invr z) ∙ +ℤ-idr y
+
+-- (a + b) + (c + d) = (a + c) + (b + d)
+regroup : (a b c d : ℤ) → (a +ℤ b) +ℤ (c +ℤ d) ≡ (a +ℤ c) +ℤ (b +ℤ d)
+regroup a b c d =
+    sym (+ℤ-assoc (a +ℤ b) c d) ∙ ap (λ (x : ℤ). x +ℤ d) (swap-last a b c) ∙ +ℤ-assoc (a +ℤ c) b d
+
+module _ (t step : ℕ) (inside : t ≤ step) where
+  -- both rows raised by k
+  raised-sum : (u w k : ℤ) → (u +ℤ k) *ℤ pos (step - t) +ℤ (w +ℤ k) *ℤ pos t ≡ (u *ℤ pos (step - t) +ℤ w *ℤ pos t) +ℤ k *ℤ pos step
+  raised-sum u w k =
+      let split : (step - t) + t ≡ step = omega arith in
+      ap (λ (x : ℤ). x +ℤ (w +ℤ k) *ℤ pos t) (sum-times u k (pos (step - t)))
+      ∙ ap (λ (x : ℤ). u *ℤ pos (step - t) +ℤ k *ℤ pos (step - t) +ℤ x) (sum-times w k (pos t))
+      ∙ regroup (u *ℤ pos (step - t)) (k *ℤ pos (step - t)) (w *ℤ pos t) (k *ℤ pos t)
+      ∙ ap (λ (x : ℤ). u *ℤ pos (step - t) +ℤ w *ℤ pos t +ℤ x) (sym (times-sum k (pos (step - t)) (pos t)) ∙ ap (λ (n : ℕ). k *ℤ pos n) split)
+
+  -- u and w are two rows' figures, raised
+  pub between-raised : (u w : ℕ) → nearest (pos (u * (step - t) + w * t) -ℤ pos (2_147_483_648 * step)) step ≡ between (lowered u) (lowered w) t step
+  unfolding lowered
+  between-raised u w =
+      let k = pos 2_147_483_648 in
+      let low = pos u -ℤ k in
+      let next = pos w -ℤ k in
+      let back : pos (u * (step - t) + w * t) ≡ (low +ℤ k) *ℤ pos (step - t) +ℤ (next +ℤ k) *ℤ pos t =
+      rw (-ℤ-+ℤ-cancel (pos u) k, -ℤ-+ℤ-cancel (pos w) k) in
+      ap (λ (x : ℤ). nearest (x -ℤ pos (2_147_483_648 * step)) step) (back ∙ raised-sum low next k)
+      ∙ ap (λ (x : ℤ). nearest x step) (taken-back (low *ℤ pos (step - t) +ℤ next *ℤ pos t) (pos (2_147_483_648 * step)))
+      ∙ sym (between-weighed t step inside low next)
+
+-- ---- the sum of the rows, weighed, as the code has it
+module _ (u w t step : ℕ) (hu : u ≤ mostRow) (hw : w ≤ mostRow) (ht : t ≤ step) (hs : step ≤ mostStep) where
+  first-most : u * (step - t) ≤ mostRow * mostStep
+  first-most = product-most mostRow mostStep hu (omega arith)
+
+  second-most : w * t ≤ mostRow * mostStep
+  second-most = product-most mostRow mostStep hw (omega arith)
+
+  pub weighed-most : u * (step - t) + w * t ≤ 2_000_000_000_000_000_000
+  weighed-most = omega (arith, first-most, second-most)
+
+  pub first-fits : Fits w64 (u * (step - t))
+  first-fits = record { fits = omega (arith, first-most) }
+
+  pub second-fits : Fits w64 (w * t)
+  second-fits = record { fits = omega (arith, second-most) }
+
+  pub weighed-fits : Fits w64 (u * (step - t) + w * t)
+  weighed-fits = record { fits = omega (arith, weighed-most) }
