@@ -12,7 +12,7 @@ greatest bannerscale_forward(const uint8_t *sheet, size_t length, const int32_t 
 greatest bannerscale_inverse(const uint8_t *sheet, size_t length, const int32_t *points, size_t numbers);
 greatest bannerscale_convergence(const uint8_t *sheet, size_t length, const int32_t *points, size_t numbers);
 
-enum { CHANGED = 20000, RUNS = 15, CALLS = 20000, ROOM = 65536, POINTS = 100000 };
+enum { CHANGED = 200000, RUNS = 15, CALLS = 20000, ROOM = 65536, POINTS = 100000 };
 
 static int same(verdict a, verdict b) { return a.number == b.number && a.kind == b.kind && a.row == b.row; }
 
