@@ -7,7 +7,7 @@ ghost use Prim.Native.Nat.{_-_, _*_, _^_, _<_, _≤_};
 ghost use lib.IntN.{pos, natAbs, _-ℤ_};
 ghost use lib.Signed.{leZ};
 ghost use Rattle.figures.specs.Ranges.{mostGap};
-ghost use Rattle.contents.specs.Layout.{latitude, longitude, northing, easting, scale, stepOf};
+ghost use Rattle.contents.specs.Layout.{latitude, longitude, easting, stepOf};
 ghost use Rattle.contents.specs.Entries.{rowsOf, placesOf};
 ghost use Rattle.bodies.specs.Check.{checkOf};
 ghost use Rattle.extent.specs.Extent.{latitudeKnown, longitudeKnown, sizeKnown, eastingKnown, northingKnown, scaleKnown, reducedKnown};

@@ -74,8 +74,3 @@ module _ (s : List ℕ) where
   latitude-small z north e =
       let r = latitude-reach north e in
       record { is = r .is; low = r .low; high = le-trans (r .high) (latitude-span s z) }
-
-  pub northing-small : checkOf s .number ≡ 0 → (y : ℤ) → northingKnown s y ≡ true → Size 0 y 990_000_000
-  northing-small z y e =
-      let r = northing-reach y e in
-      record { is = r .is; low = r .low; high = le-trans (r .high) (northing-span s z) }

@@ -1,4 +1,4 @@
--- The words that a reading takes lie in a body of n rows: at any row, and at any offset from row 0 to the last row. Assumes nothing.
+-- The rows between which an offset falls are there, and the words of a row and of the next lie in a body of n rows. Assumes nothing.
 use Prim.Native.Nat.{ℕ, suc, _+_, _*_, _-_, _/_, _%_, _<_, _≤_}
 use mathlib.Core.List.{List}
 use native.Mathlib.Nat.{mul-suc, mul-le-mul-left, div-add-mod', le-of-mul-le-mul-right, lt-of-mul-lt-mul-right}
@@ -26,11 +26,3 @@ module _ (b : List ℕ) (w c n : ℕ) (rows : 4 * (w * n) ≤ length b) (inside 
   -- the row after row i
   pub next-within : (i : ℕ) → suc i < n → 4 * (w * i + c + w) + 4 ≤ length b
   next-within i l = omega (arith, row-within (suc i) l, mul-suc w i)
-
-  -- what `value_at` asks
-  pub value-within : (step offset : ℕ) → 0 < step → 0 < n → offset ≤ (n - 1) * step
-      → (4 * (w * (offset / step) + c) + 4 ≤ length b) × (0 < offset % step → 4 * (w * (offset / step) + c + w) + 4 ≤ length b)
-  value-within step offset p m h = (
-    row-within (offset / step) (this-there n step offset p m h),
-    λ r. next-within (offset / step) (omega (arith, next-there n step offset p m h r)),
-  )

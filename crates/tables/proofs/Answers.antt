@@ -26,12 +26,6 @@ module _ {r v : ℤ} (ok : mag r < 2 ^ 63) (e : r ≡ v) where
     pub size-fits : T (ltb high (2 ^ 64)) → T (nonNeg (toZ w64 (ofZ w64 r))) × Fits w64 (natAbs (toZ w64 (ofZ w64 r)))
     size-fits t = unsigned-fits (holds (h .high)) (size-nonNeg h) t
 
-    pub size-low : low ≤ natAbs (toZ w64 (ofZ w64 r))
-    size-low = rw size-is (h .low)
-
-    pub size-high : natAbs (toZ w64 (ofZ w64 r)) ≤ high
-    size-high = rw size-is (h .high)
-
 -- ---- a figure that was read as a size r
 module _ {r : ℕ} {v : ℤ} {low high : ℕ} (e : pos r ≡ v) (h : Size low v high) where
   pub read-is : r ≡ natAbs v

@@ -6,7 +6,7 @@ ghost use mathlib.Core.Bool.{true};
 ghost use Prim.Native.Nat.{_+_, _-_, _*_, _^_, _<_, _≤_};
 ghost use lib.IntN.{pos, natAbs};
 ghost use lib.Signed.{leZ};
-ghost use Rattle.figures.specs.Ranges.{mostH, mostV, mostA, mostB, mostC, mostP, mostM, mostD, mostStep};
+ghost use Rattle.figures.specs.Ranges.{mostH, mostV, mostA, mostB, mostC, mostP, mostM, mostD};
 ghost use Rattle.contents.specs.Layout.{lastKind, latitude, longitude, northing, easting, scale, widthOf, stepOf};
 ghost use Rattle.contents.specs.Entries.{rowsOf, placeOf, placesOf};
 ghost use Rattle.bodies.specs.Check.{checkOf};
