@@ -1,13 +1,15 @@
 -- Reading between rows whose figures are raised by one number: the sum of the rows, weighed, is raised by that number times the step. Assumes nothing.
 use mathlib.Core.Path.{_≡_, sym, ap, _∙_}
 use Prim.Native.Nat.{ℕ, _+_, _*_, _-_, _≤_}
+use native.Mathlib.Nat.{le-trans}
 use native.Mathlib.Omega.{arith}
+use lib.Dec.{lit≤}
 use lib.IntN.{ℤ, pos, negℤ, _+ℤ_, _-ℤ_, _*ℤ_, +ℤ-assoc, +ℤ-idr, +ℤ-invr, -ℤ-+ℤ-cancel}
 use mir.Syntax.{w64}
 use mir.Val.{Fits}
 use Rattle.figures.specs.Nearest.{nearest}
 use Rattle.figures.specs.Between.{between, lowered}
-use Rattle.figures.specs.Ranges.{mostRow, mostStep}
+use Rattle.figures.specs.Ranges.{mostRow, mostStep, mostNumerator}
 use Rattle.figures.proofs.Ring.{times-sum, sum-times, swap-last}
 use Rattle.figures.proofs.Sizes.{product-most}
 use Rattle.figures.proofs.Interval.{between-weighed}
@@ -54,6 +56,9 @@ module _ (u w t step : ℕ) (hu : u ≤ mostRow) (hw : w ≤ mostRow) (ht : t �
 
   pub weighed-most : u * (step - t) + w * t ≤ 2_000_000_000_000_000_000
   weighed-most = omega (arith, first-most, second-most)
+
+  pub weighed-numerator : u * (step - t) + w * t ≤ mostNumerator
+  weighed-numerator = le-trans weighed-most (lit≤ tt)
 
   pub first-fits : Fits w64 (u * (step - t))
   first-fits = record { fits = omega (arith, first-most) }

@@ -8,11 +8,8 @@ use native.Mathlib.Omega.{arith}
 use lib.Dec.{T}
 use lib.IntN.{pos}
 use lib.Signed.{leZ}
-use mir.Syntax.{w64}
-use mir.Val.{Fits}
 use Rattle.figures.specs.Nearest.{nearestSize}
-use Rattle.figures.specs.Ranges.{mostStep, mostNumerator}
-use Rattle.figures.proofs.Sizes.{product-most}
+use Rattle.figures.specs.Ranges.{mostRow}
 use Rattle.figures.proofs.Interval.{between-sizes}
 use Rattle.words.specs.Words.{unsignedAt, signed32, wordAt}
 use Rattle.words.proofs.TwosComplement.{signed32-low, signed32-below}
@@ -30,25 +27,9 @@ pub word-size : (b : List ℕ) (k n : ℕ) → n ≡ unsignedAt b k → n < 4_29
 unfolding wordAt
 word-size b k n e small h = not-negative (unsignedAt b k) (rw (← e) small) h ∙ ap pos (sym e)
 
--- ---- the sum of both rows' weights, as the code has it
-module _ (u v t step : ℕ) (hu : u < 4_294_967_296) (hv : v < 4_294_967_296) (ht : t ≤ step) (hs : step ≤ mostStep) where
-  first-most : u * (step - t) ≤ 4_294_967_296 * mostStep
-  first-most = product-most 4_294_967_296 mostStep (omega arith) (omega arith)
-
-  second-most : v * t ≤ 4_294_967_296 * mostStep
-  second-most = product-most 4_294_967_296 mostStep (omega arith) (omega arith)
-
-  pub first-fits : Fits w64 (u * (step - t))
-  first-fits = record { fits = omega (arith, first-most) }
-
-  pub second-fits : Fits w64 (v * t)
-  second-fits = record { fits = omega (arith, second-most) }
-
-  pub weights-fit : Fits w64 (u * (step - t) + v * t)
-  weights-fit = record { fits = omega (arith, first-most, second-most) }
-
-  pub weights-most : u * (step - t) + v * t ≤ mostNumerator
-  weights-most = omega (arith, first-most, second-most)
+-- a word without a sign is a row that `between` could take
+pub word-row : (n : ℕ) → n < 4_294_967_296 → n ≤ mostRow
+word-row n h = omega arith
 
 pub sizes-between : (b : List ℕ) (w c i t step u v r : ℕ) → t ≤ step
     → u ≡ unsignedAt b (w * i + c) → u < 4_294_967_296 → leZ (pos 0) (column b w c i) ≡ true

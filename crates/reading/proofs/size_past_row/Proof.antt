@@ -1,5 +1,6 @@
 -- `reading::size_past_row` meets its contract. Assumes nothing.
-use Rattle.reading.proofs.Unsigned.{first-fits, second-fits, weights-fit, weights-most, sizes-between}
+use Rattle.figures.proofs.Raised.{first-fits, second-fits, weighed-fits, weighed-numerator}
+use Rattle.reading.proofs.Unsigned.{word-row, sizes-between}
 use borrow.Author.Needs.{needs}
 use Rattle.reading.proofs.size_past_row.Statement.{statement}
 use Rattle.reading.proofs.size_past_row.Tie as tie
@@ -32,16 +33,16 @@ sub-nearest-size : tie.Need-sub-nearest-size
 sub-nearest-size c = search needs
 
 mul-nearest-size : tie.Need-mul-nearest-size
-mul-nearest-size c = search first-fits
+mul-nearest-size c = search (first-fits, word-row)
 
 mul-nearest-size-2 : tie.Need-mul-nearest-size-2
-mul-nearest-size-2 c = search second-fits
+mul-nearest-size-2 c = search (second-fits, word-row)
 
 add-nearest-size : tie.Need-add-nearest-size
-add-nearest-size c = search weights-fit
+add-nearest-size c = search (weighed-fits, word-row)
 
 nearest-size-requires : tie.Need-nearest-size-requires
-nearest-size-requires c κs = search (weights-most, needs)
+nearest-size-requires c κs = search (weighed-numerator, word-row, needs)
 
 pub size-past-row-spec : {M : Type 1} → statement M
 size-past-row-spec =
