@@ -188,19 +188,22 @@ grid plain_convergence(const uint8_t *s, const places *p, int32_t x, int32_t y) 
     return (grid){0, x1 < 0 ? -turn : turn, size_between(pair_at(s, p, 6, size, SCALE), 1, 0, SCALE)};
 }
 
-// Over many points.
+// Over many points. The loops hold their conversion inlined, as the library's do.
 static int32_t greater(int32_t a, int32_t b) { return a < b ? b : a; }
 
 #define OVER(name, answer, one, two)                                                                                                                     \
-    greatest plain_##name##_all(const uint8_t *sheet, size_t length, const int32_t *points, size_t numbers) {                                            \
+    __attribute__((flatten)) static greatest over_##name(const uint8_t *sheet, const places *p, const int32_t *points, size_t numbers) {                 \
         greatest g = {0, 0};                                                                                                                             \
-        if (plain_check(sheet, length).number) return g;                                                                                                 \
-        places p = plain_places(sheet);                                                                                                                  \
         for (size_t i = 0; i < numbers / 2; i++) {                                                                                                       \
-            answer r = plain_##name(sheet, &p, points[2 * i], points[2 * i + 1]);                                                                        \
+            answer r = plain_##name(sheet, p, points[2 * i], points[2 * i + 1]);                                                                         \
             g.first = greater(g.first, r.one), g.second = greater(g.second, r.two);                                                                      \
         }                                                                                                                                                \
         return g;                                                                                                                                        \
+    }                                                                                                                                                    \
+    greatest plain_##name##_all(const uint8_t *sheet, size_t length, const int32_t *points, size_t numbers) {                                            \
+        if (plain_check(sheet, length).number) return (greatest){0, 0};                                                                                  \
+        places p = plain_places(sheet);                                                                                                                  \
+        return over_##name(sheet, &p, points, numbers);                                                                                                  \
     }
 OVER(forward, plane, x, y)
 OVER(inverse, geographic, latitude, longitude)

@@ -1,16 +1,16 @@
 -- Geographic to plane on a sheet that passes: the size of x′ is not negative, and x and y fit 32 bits. Assumes nothing.
-use mathlib.Core.Path.{_≡_, ap, _∙_}
+use mathlib.Core.Path.{_≡_, sym, ap, _∙_}
 use mathlib.Core.List.{List}
-use Prim.Native.Nat.{ℕ, suc, _*_, _-_, _≤_}
+use Prim.Native.Nat.{ℕ, _*_, _-_, _≤_, zero-le}
 use native.Mathlib.Nat.{le-trans, mul-le-mul-right}
 use native.Mathlib.Omega.{arith}
 use lib.Dec.{T}
-use lib.IntN.{ℤ, pos, negsuc, natAbs, _+ℤ_, _*ℤ_}
+use lib.IntN.{ℤ, pos, natAbs, _+ℤ_, _*ℤ_}
 use lib.Signed.{nonNeg}
 use Rattle.figures.specs.Nearest.{withSign}
 use Rattle.figures.specs.Ranges.{mostH, mostV, mostA, mostS}
 use Rattle.figures.specs.Steps.{qOf, sizeOfX, rise}
-use Rattle.figures.proofs.Sizes.{subℕ-le, size-product, size-withSign, sum-most, product-most}
+use Rattle.figures.proofs.Sizes.{Size, sum-nonNeg, size-product, size-withSign, sum-most, product-most}
 use Rattle.figures.proofs.StepBounds.{q-most, x-size-most, rise-most}
 use Rattle.contents.specs.Layout.{latitude, longitude, stepOf}
 use Rattle.contents.specs.Entries.{rowsOf}
@@ -21,11 +21,6 @@ use Rattle.extent.proofs.Reach.{longitude-span}
 use Rattle.extent.specs.Extent.{fromFirst, lOf}
 use Rattle.convert.specs.Answers.{plane}
 use Rattle.convert.specs.Forward.{xSize, xOf, yOf, planeAt}
-
--- what is at most n in size does not turn n negative
-pub sum-nonNeg : (n : ℕ) (z : ℤ) → natAbs z ≤ n → T (nonNeg (pos n +ℤ z))
-sum-nonNeg n (pos m) h = tt
-sum-nonNeg n (negsuc m) h = rw (subℕ-le {a = n} {b = suc m} h) tt
 
 -- ---- the steps, from the figures as they were read: a′, b′ and c′ have the bits of a, b and c
 module _ (s : List ℕ) (t size : ℕ) where
@@ -68,6 +63,10 @@ module _ (s : List ℕ) (z : checkOf s .number ≡ 0) (t : ℕ) (ht : t ≤ (row
     unfolding xSize
     x-size = x-size-most (hAt s t) size (aAt s t) (bAt s size) h-most s-most (a-most s z t ht) (b-between s z size hl)
 
+    -- r is the size of x′ as a size
+    pub x-between : {r : ℕ} → pos r ≡ xSize s t size → Size 0 (xSize s t size) 61_204_000
+    x-between e = record { is = sym e ∙ ap (λ (z : ℤ). pos (natAbs z)) e; low = zero-le; high = x-size }
+
     pub y-rise : natAbs (rise (vAt s t) (qOf size) (cAt s size)) ≤ 504_200
     y-rise = rise-most (vAt s t) (qOf size) (cAt s size) v-most (q-most size s-most) (c-between s z size hl)
 
@@ -78,6 +77,10 @@ module _ (s : List ℕ) (z : checkOf s .number ≡ 0) (t : ℕ) (ht : t ≤ (row
         size-product (aAt s t *ℤ bAt s size) (pos 1_000) ∙ ap (λ (n : ℕ). n * 1_000) (size-product (aAt s t) (bAt s size)) in
         sum-nonNeg (hAt s t * size) (aAt s t *ℤ bAt s size *ℤ pos 1_000)
         (omega (arith, ab, product-most mostA size (a-most s z t ht) (b-slope s z size hl), mul-le-mul-right size h-least))
+
+    -- the same of the figures as they were read
+    pub x-asked : {h : ℕ} {a a′ b b′ : ℤ} → h ≡ hAt s t → a′ ≡ a → a ≡ aAt s t → b′ ≡ b → b ≡ bAt s size → T (nonNeg (pos (h * size) +ℤ a′ *ℤ b′ *ℤ pos 1_000))
+    x-asked p e f g k = rw (e ∙ f, g ∙ k, p) x-not-negative
 
     -- y fits 32 bits
     pub y-most : natAbs (yOf s t size) ≤ 1_000_504_199

@@ -10,7 +10,7 @@ use lib.IntN.{ℤ, pos, negℤ, natAbs, _+ℤ_, _-ℤ_, _*ℤ_}
 use lib.Signed.{nonNeg}
 use Rattle.figures.specs.Ranges.{mostA, mostX}
 use Rattle.figures.specs.Steps.{approximateL, sizeOfL, reduction}
-use Rattle.figures.proofs.Sizes.{size-minus, size-product, product-most}
+use Rattle.figures.proofs.Sizes.{sum-nonNeg, size-minus, size-product, product-most}
 use Rattle.figures.proofs.Rounding.{IsNearest, is-nearest}
 use Rattle.figures.proofs.StepBounds.{reduction-most, approximate-most}
 use Rattle.contents.specs.Layout.{latitude, northing, easting, stepOf}
@@ -22,7 +22,7 @@ use Rattle.extent.specs.Extent.{sizeKnown}
 use Rattle.extent.proofs.Reach.{easting-span, size-reach}
 use Rattle.convert.specs.Answers.{geographic}
 use Rattle.convert.specs.Inverse.{approximateOf, sizeOf, longitudeOf, geographicAt}
-use Rattle.convert.proofs.Eastings.{sum-nonNeg, h-least}
+use Rattle.convert.proofs.Eastings.{h-least}
 
 -- ---- the steps, from the figures as they were read: a number with ′ has the bits of the one without
 pub reduction-worked : (s : List ℕ) (x : ℕ) (y : ℤ) {p : ℕ} {y′ d d′ : ℤ} → y′ ≡ y → p ≡ pAt s (natAbs y′) → d′ ≡ d → d ≡ dAt s x

@@ -10,6 +10,7 @@ ghost use Rattle.figures.specs.Ranges.{mostGap};
 ghost use Rattle.contents.specs.Layout.{latitude, longitude, easting, stepOf};
 ghost use Rattle.contents.specs.Entries.{rowsOf, placesOf};
 ghost use Rattle.bodies.specs.Check.{checkOf};
+ghost use Rattle.tables.specs.Figures.{bAt, cAt};
 ghost use Rattle.extent.specs.Extent.{latitudeKnown, longitudeKnown, sizeKnown, eastingKnown, northingKnown, scaleKnown, reducedKnown};
 ghost use Rattle.convert.specs.Forward.{xSize, xOf, yOf, planeAt, geographicToPlane};
 ghost use Rattle.convert.specs.Inverse.{reducedNorthing, rowOf, secondsPast, distanceOf, approximateOf, sizeOf, geographicAt, fromDistance, fromReduced, planeToGeographic};
@@ -38,48 +39,50 @@ pub struct Grid {
 
 // ---- geographic to plane
 
-// The size of x′, in 0.01 ft, at the latitude's distance t from row 0 and the size of L.
-fn x_size(s: &[u8], p: Places, t: u64, size: u64) -> i64
-    requires { ⌜ (checkOf (now s) .number ≡ 0) × (p ≡ placesOf (now s)) × (t ≤ (rowsOf (now s) latitude - 1) * stepOf latitude) × (size ≤ (rowsOf (now s) longitude - 1) * stepOf longitude) ⌝ }
+// The size of x′, in 0.01 ft, at the latitude's distance t from row 0 and the size of L, of which b was read.
+fn x_size(s: &[u8], p: Places, t: u64, size: u64, b: i64) -> i64
+    requires { ⌜ (checkOf (now s) .number ≡ 0) × (p ≡ placesOf (now s)) × (t ≤ (rowsOf (now s) latitude - 1) * stepOf latitude) × (size ≤ (rowsOf (now s) longitude - 1) * stepOf longitude) × (b ≡ bAt (now s) size) ⌝ }
     ensures { λ r. ⌜ (r ≡ xSize (now (s .entry)) t size) × (natAbs r ≤ 61_204_000) ⌝ }
 {
     let h = tables::h_at(s, p, t);
     let a = tables::a_at(s, p, t);
-    let b = tables::b_at(s, p, size);
-    figures::size_of_x(h, size, a, b)
+    figures::size_of_x(h, size, a, b) as i64
 }
 
-// x, in 0.01 ft.
-fn x_of(s: &[u8], p: Places, t: u64, l: i64) -> i32
-    requires { ⌜ (checkOf (now s) .number ≡ 0) × (p ≡ placesOf (now s)) × (t ≤ (rowsOf (now s) latitude - 1) * stepOf latitude) × (natAbs l ≤ (rowsOf (now s) longitude - 1) * stepOf longitude) ⌝ }
+// x, in 0.01 ft, with b of the size of L.
+fn x_of(s: &[u8], p: Places, t: u64, l: i64, b: i64) -> i32
+    requires { ⌜ (checkOf (now s) .number ≡ 0) × (p ≡ placesOf (now s)) × (t ≤ (rowsOf (now s) latitude - 1) * stepOf latitude) × (natAbs l ≤ (rowsOf (now s) longitude - 1) * stepOf longitude) × (b ≡ bAt (now s) (natAbs l)) ⌝ }
     ensures { λ r. ⌜ r ≡ xOf (now (s .entry)) t l ⌝ }
 {
-    let x = figures::with_sign(l, x_size(s, p, t, figures::size(l)));
+    let x = figures::with_sign(l, x_size(s, p, t, figures::size(l), b));
     (x + tables::false_easting(s, p)) as i32
 }
 
-// y, in 0.01 ft.
-fn y_of(s: &[u8], p: Places, t: u64, size: u64) -> i32
-    requires { ⌜ (checkOf (now s) .number ≡ 0) × (p ≡ placesOf (now s)) × (t ≤ (rowsOf (now s) latitude - 1) * stepOf latitude) × (size ≤ (rowsOf (now s) longitude - 1) * stepOf longitude) ⌝ }
+// y, in 0.01 ft, with c of the size of L.
+fn y_of(s: &[u8], p: Places, t: u64, size: u64, c: i64) -> i32
+    requires { ⌜ (checkOf (now s) .number ≡ 0) × (p ≡ placesOf (now s)) × (t ≤ (rowsOf (now s) latitude - 1) * stepOf latitude) × (size ≤ (rowsOf (now s) longitude - 1) * stepOf longitude) × (c ≡ cAt (now s) size) ⌝ }
     ensures { λ r. ⌜ r ≡ yOf (now (s .entry)) t size ⌝ }
 {
+    let q = figures::q_of(size);
     let v = tables::v_at(s, p, t);
-    let c = tables::c_at(s, p, size);
-    let rise = figures::rise(v, figures::q_of(size), c);
-    (tables::y0_at(s, p, t) + rise) as i32
+    let y0 = tables::y0_at(s, p, t);
+    (y0 + figures::rise(v, q, c)) as i32
 }
 
-// The point on the plane, of a latitude and a longitude within the tables.
+// The point on the plane, of a latitude and a longitude within the tables. What is read at the size of L comes first: it is ready when H and a are.
 fn plane_at(s: &[u8], p: Places, latitude: i32, longitude: i32) -> Plane
     requires { ⌜ (checkOf (now s) .number ≡ 0) × (p ≡ placesOf (now s)) × (latitudeKnown (now s) latitude ≡ true) × (longitudeKnown (now s) longitude ≡ true) ⌝ }
     ensures { λ r. ⌜ r ≡ planeAt (now (s .entry)) latitude longitude ⌝ }
 {
     let t = extent::from_first(s, p, latitude) as u64;
     let l = extent::l_of(s, p, longitude);
+    let size = figures::size(l);
+    let c = tables::c_at(s, p, size);
+    let b = tables::b_at(s, p, size);
     Plane {
         number: 0,
-        x: x_of(s, p, t, l),
-        y: y_of(s, p, t, figures::size(l)),
+        x: x_of(s, p, t, l, b),
+        y: y_of(s, p, t, size, c),
     }
 }
 

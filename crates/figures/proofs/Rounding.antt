@@ -5,7 +5,8 @@ use Prim.Native.Nat.{ℕ, zero, suc, _+_, _*_, _/_, _%_, _^_, _<_, _≤_}
 use native.Mathlib.Nat.{div-add-mod', mod-lt, div-eq-of-lt-le, mul-left-comm, add-mul, mul-le-mul-left, le-div-iff-mul-le}
 use native.Mathlib.Omega.{arith}
 use lib.IntN.{ℤ, pos, negsuc, negℤ, natAbs, _*ℤ_}
-use lib.Signed.{mag}
+use lib.Dec.{T}
+use lib.Signed.{mag, nonNeg}
 use mir.Syntax.{w64}
 use mir.Val.{toZ, ofZ}
 use mir.Facts.{toZ-ofZ}
@@ -64,6 +65,11 @@ nearestSize-le n d h = nearestSize-most n d n h (omega (arith, mul-le-mul-left n
 pub size-nearest : (z : ℤ) (d : ℕ) → natAbs (nearest z d) ≡ nearestSize (natAbs z) d
 unfolding nearest
 size-nearest z d = size-withSign z (pos (nearestSize (natAbs z) d))
+
+pub nearest-not-negative : (z : ℤ) (d : ℕ) → T (nonNeg z) → pos (nearestSize (natAbs z) d) ≡ nearest z d
+unfolding nearest withSign
+nearest-not-negative (pos n) d h = refl
+nearest-not-negative (negsuc n) d h = absurd h
 
 pub nearest-minus : (n d : ℕ) → 0 < d → nearest (negℤ (pos n)) d ≡ negℤ (pos (nearestSize n d))
 unfolding nearest withSign

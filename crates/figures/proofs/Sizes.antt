@@ -36,6 +36,11 @@ pub pos-minus : (a b : ℕ) → pos a -ℤ pos b ≡ subℕ a b
 pos-minus a zero = ap pos (omega arith) ∙ sym (subℕ-le {a = a} {b = zero} (omega arith))
 pos-minus a (suc b) = refl
 
+-- what is at most n in size does not turn n negative
+pub sum-nonNeg : (n : ℕ) (z : ℤ) → natAbs z ≤ n → T (nonNeg (pos n +ℤ z))
+sum-nonNeg n (pos m) h = tt
+sum-nonNeg n (negsuc m) h = rw (subℕ-le {a = n} {b = suc m} h) tt
+
 either-most : (k : ℕ) (t : Bool) (x y : ℤ) → (t ≡ true → natAbs x ≤ k) → (t ≡ false → natAbs y ≤ k) → natAbs (cond t x y) ≤ k
 either-most k true x y f g = f refl
 either-most k false x y f g = g refl

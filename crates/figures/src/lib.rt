@@ -1,7 +1,9 @@
 // Exact numbers: rounding, reading between rows, and the Survey's printed steps, each over whole numbers in the sheet's units.
 ghost use mathlib.Core.Path.{_≡_};
 ghost use Prim.Native.Nat.{_+_, _*_, _^_, _<_, _≤_};
-ghost use lib.IntN.{natAbs};
+ghost use lib.Dec.{T};
+ghost use lib.IntN.{pos, natAbs, _+ℤ_, _-ℤ_, _*ℤ_};
+ghost use lib.Signed.{nonNeg};
 ghost use Rattle.figures.specs.Nearest.{withSign, nearestSize, nearest};
 ghost use Rattle.figures.specs.Between.{between, lowered};
 ghost use Rattle.figures.specs.Ranges.{mostH, mostV, mostA, mostB, mostC, mostP, mostM, mostD, mostS, mostQ, mostX, mostWord, mostRow, mostStep, mostGap, mostScale, mostNumerator, mostDivisor};
@@ -40,6 +42,22 @@ pub fn nearest(n: i64, d: u64) -> i64
     with_sign(n, nearest_size(size(n), d) as i64)
 }
 
+// d, less one where n is below what it was raised by: what is added to 2n there, so that a half goes down.
+fn half(n: u64, d: u64, raised: u64) -> u64
+    requires { ⌜ 0 < d ⌝ }
+    ensures { λ r. ⌜ (n < raised → r + 1 ≡ d) × (raised ≤ n → r ≡ d) ⌝ }
+{
+    if n < raised { d - 1 } else { d }
+}
+
+// The nearest whole number to n/d less k, a half away from zero, without a size taken and a sign put back.
+pub fn nearest_less(n: u64, d: u64, k: u64) -> i64
+    requires { ⌜ (n ≤ mostNumerator) × (0 < d) × (d ≤ mostDivisor) × (k ≤ mostRow) × (k * d ≤ mostNumerator) ⌝ }
+    ensures { λ r. ⌜ r ≡ nearest (pos n -ℤ pos (k * d)) d ⌝ }
+{
+    ((2 * n + half(n, d, k * d)) / (2 * d)) as i64 - k as i64
+}
+
 // What a row's figure is raised by, so that it is read without a sign.
 const RAISED: u64 = 2_147_483_648;
 
@@ -48,8 +66,7 @@ pub fn between(u: u64, w: u64, t: u64, step: u64) -> i64
     requires { ⌜ (u ≤ mostRow) × (w ≤ mostRow) × (t ≤ step) × (step ≤ mostStep) × (0 < step) ⌝ }
     ensures { λ r. ⌜ r ≡ between (lowered u) (lowered w) t step ⌝ }
 {
-    let weighed = u * (step - t) + w * t;
-    nearest((weighed as i64) - ((RAISED * step) as i64), step)
+    nearest_less(u * (step - t) + w * t, step, RAISED)
 }
 
 // q = (s/100)², in 0.001, of s in 0.001″.
@@ -60,12 +77,13 @@ pub fn q_of(s: u64) -> u64
     nearest_size(s * s, 10_000_000)
 }
 
-// The size of x′, in 0.01 ft: H·s + a·b.
-pub fn size_of_x(h: u64, s: u64, a: i64, b: i64) -> i64
-    requires { ⌜ (h ≤ mostH) × (s ≤ mostS) × (natAbs a ≤ mostA) × (natAbs b ≤ mostB) ⌝ }
-    ensures { λ r. ⌜ r ≡ sizeOfX h s a b ⌝ }
+// The size of x′, in 0.01 ft: H·s + a·b, which is not negative.
+pub fn size_of_x(h: u64, s: u64, a: i64, b: i64) -> u64
+    requires { ⌜ (h ≤ mostH) × (s ≤ mostS) × (natAbs a ≤ mostA) × (natAbs b ≤ mostB) × T (nonNeg (pos (h * s) +ℤ a *ℤ b *ℤ pos 1_000)) ⌝ }
+    ensures { λ r. ⌜ pos r ≡ sizeOfX h s a b ⌝ }
 {
-    nearest((h * s) as i64 + a * b * 1_000, 10_000_000)
+    let sum = (h * s) as i64 + a * b * 1_000;
+    nearest_size(sum as u64, 10_000_000)
 }
 
 // The rise of y above y0, in 0.01 ft: V·q + c.

@@ -65,7 +65,7 @@ pub fn within_rows(rows: usize, step: u64, z: i64) -> bool
     requires { ⌜ (0 < rows) × (rows ≤ mostCount) × (step ≤ mostStep) ⌝ }
     ensures { λ r. ⌜ r ≡ withinRows rows step z ⌝ }
 {
-    let last = ((rows - 1) as u64) * step;
+    let last = ((rows - 1) as u32 as u64) * step; // in 32 bits, so that the compiler sees a number not negative, and one test is enough
     (0 <= z) & (z <= (last as i64))
 }
 

@@ -203,11 +203,11 @@ fn work_sheet(i: usize, points: &[[i32; 4]]) {
 
 // The steps forward: q, the size of x′, and the rise.
 fn step_forward(s: u64, h: u64, v: u64, a: i64, b: i64, c: i64)
-    requires { ⌜ (s ≤ mostS) × (h ≤ mostH) × (v ≤ mostV) × (natAbs a ≤ mostA) × (natAbs b ≤ mostB) × (natAbs c ≤ mostC) ⌝ }
+    requires { ⌜ (s ≤ mostS) × (h ≤ mostH) × (v ≤ mostV) × (natAbs a ≤ mostA) × (natAbs b ≤ mostB) × (natAbs c ≤ mostC) × T (nonNeg (pos (h * s) +ℤ a *ℤ b *ℤ pos 1_000)) ⌝ }
 {
     let q = figures::q_of(s);
     print_size(b": q ", q);
-    print_figure(b" x ", figures::size_of_x(h, s, a, b));
+    print_size(b" x ", figures::size_of_x(h, s, a, b));
     print_figure(b" rise ", figures::rise(v, q, c));
 }
 

@@ -1,8 +1,12 @@
 -- `convert::plane_at` meets its contract. Assumes nothing.
 use mathlib.Core.Path.{_≡_, ap, _∙_}
+use Prim.Native.Nat.{_-_, _*_, _≤_}
 use denote.Ref.{now}
 use mir.Syntax.{w32, w64}
 use mir.Val.{toZ, ofZ}
+use Rattle.contents.specs.Layout.{longitude, stepOf}
+use Rattle.contents.specs.Entries.{rowsOf}
+use Rattle.tables.specs.Figures.{bAt}
 use Rattle.tables.proofs.Answers.{size-is, size-fits}
 use Rattle.extent.specs.Extent.{fromFirst, lOf}
 use Rattle.extent.proofs.Reach.{latitude-reach, latitude-small, longitude-reach}
@@ -25,12 +29,12 @@ l-is c =
 
 returns : tie.Need-returns
 returns c =
-    let p = c .before .before .before .before .before .before .pre in
-    let distance = c .before .before .before .before in
+    let p = c .before .before .before .before .before .before .before .before .pre in
+    let distance = c .before .before .before .before .before .before in
     let t = size-is (distance .from-first .ok) (distance-is distance) (latitude-reach _ _ (p .2)) in
-    let x : toZ w32 (ofZ w32 (c .before .before .x-of .result)) ≡ c .before .before .x-of .result = search needs in
+    let x : toZ w32 (ofZ w32 (c .before .x-of .result)) ≡ c .before .x-of .result = search needs in
     let y : toZ w32 (ofZ w32 (c .y-of .result)) ≡ c .y-of .result = search needs in
-    plane-worked _ _ _ t (l-is (c .before .before .before)) (c .before .size .ensures) x (c .before .before .x-of .ensures) y (c .y-of .ensures)
+    plane-worked _ _ _ t (l-is (c .before .before .before .before .before)) (c .before .before .before .before .size .ensures) x (c .before .x-of .ensures) y (c .y-of .ensures)
 
 from-first-requires : tie.Need-from-first-requires
 from-first-requires c κs = search needs
@@ -43,20 +47,37 @@ cast-t c =
 l-of-requires : tie.Need-l-of-requires
 l-of-requires c κs = search needs
 
+size-requires : tie.Need-size-requires
+size-requires c κs = bits-below (c .l-of .result) (c .l-of .ok) (c .l-of .ensures .1) tt
+
+-- the size of L is within its table
+size-reach : (c : tie.After-size) → let s = now (c .before .before .before .before .args .s) in c .size .result ≤ (rowsOf s longitude - 1) * stepOf longitude
+size-reach c = rw (c .size .ensures, l-is (c .before)) (longitude-reach _ _ (c .before .before .before .before .pre .3))
+
+c-at-requires : tie.Need-c-at-requires
+c-at-requires c κs =
+    let p = c .before .before .before .before .pre in
+    (p .0, p .1, size-reach c)
+
+b-at-requires : tie.Need-b-at-requires
+b-at-requires c κs =
+    let p = c .before .before .before .before .before .pre in
+    (p .0, p .1, size-reach (c .before))
+
 x-of-requires : tie.Need-x-of-requires
 x-of-requires c κs =
-    let p = c .before .before .before .pre in
-    let t = size-is (c .before .from-first .ok) (distance-is (c .before)) (latitude-reach _ _ (p .2)) in
-    (p .0, p .1, rw t (latitude-reach _ _ (p .2) .high), rw (l-is c) (longitude-reach _ _ (p .3)))
-
-size-requires : tie.Need-size-requires
-size-requires c κs = bits-below (c .before .l-of .result) (c .before .l-of .ok) (c .before .l-of .ensures .1) tt
+    let p = c .before .before .before .before .before .before .pre in
+    let distance = c .before .before .before .before in
+    let t = size-is (distance .from-first .ok) (distance-is distance) (latitude-reach _ _ (p .2)) in
+    let size = c .before .before .size .ensures in
+    (p .0, p .1, rw t (latitude-reach _ _ (p .2) .high), rw (l-is (c .before .before .before)) (longitude-reach _ _ (p .3)), bits-is (c .b-at .ok) ∙ c .b-at .ensures .0 ∙ ap (bAt _) size)
 
 y-of-requires : tie.Need-y-of-requires
 y-of-requires c κs =
-    let p = c .before .before .before .before .before .pre in
-    let t = size-is (c .before .before .before .from-first .ok) (distance-is (c .before .before .before)) (latitude-reach _ _ (p .2)) in
-    (p .0, p .1, rw t (latitude-reach _ _ (p .2) .high), rw (c .size .ensures, l-is (c .before .before)) (longitude-reach _ _ (p .3)))
+    let p = c .before .before .before .before .before .before .before .pre in
+    let distance = c .before .before .before .before .before in
+    let t = size-is (distance .from-first .ok) (distance-is distance) (latitude-reach _ _ (p .2)) in
+    (p .0, p .1, rw t (latitude-reach _ _ (p .2) .high), size-reach (c .before .before .before), bits-is (c .before .before .c-at .ok) ∙ c .before .before .c-at .ensures .0)
 
 pub plane-at-spec : {M : Type 1} → statement M
 plane-at-spec =
@@ -65,7 +86,9 @@ plane-at-spec =
     from-first-requires
     cast-t
     l-of-requires
-    x-of-requires
     size-requires
+    c-at-requires
+    b-at-requires
+    x-of-requires
     y-of-requires
     returns)

@@ -49,7 +49,8 @@ size-requires c κs =
 x-size-requires : tie.Need-x-size-requires
 x-size-requires c κs =
     let p = c .before .before .pre in
-    (p .0, p .1, p .2, rw (size-is c) (p .3))
+    let b : toZ w64 (ofZ w64 (c .before .before .args .b)) ≡ c .before .before .args .b = search needs in
+    (p .0, p .1, p .2, rw (size-is c) (p .3), rw (size-is c) (b ∙ p .4))
 
 with-sign-requires : tie.Need-with-sign-requires
 with-sign-requires c κs = bits-below (c .x-size .result) (c .x-size .ok) (c .x-size .ensures .1) tt

@@ -1,15 +1,17 @@
 -- `figures::size_of_x` meets its contract. Assumes nothing.
+use mathlib.Core.Path.{ap, _∙_}
+use Prim.Native.Nat.{ℕ, _+_, _*_, _≤_}
 use native.Mathlib.Omega.{arith}
 use lib.Dec.{lit<, lit≤}
-use Prim.Native.Nat.{_*_, _≤_}
-use lib.IntN.{pos}
+use lib.IntN.{pos, _+ℤ_, _*ℤ_}
 use mir.Syntax.{w64}
-use mir.Val.{ofZ}
+use mir.Val.{toZ, ofZ}
+use Rattle.figures.specs.Nearest.{nearestSize}
 use Rattle.figures.specs.Steps.{sizeOfX}
 use Rattle.figures.specs.Ranges.{mostH, mostS, mostA, mostB}
 use Rattle.figures.proofs.Sizes.{product-most}
-use Rattle.figures.proofs.Holds.{Holds, held, held-size, held-literal, sum-fits, sum, product-fits, product, size-most}
-use Rattle.figures.proofs.Rounding.{rounded}
+use Rattle.figures.proofs.Holds.{Holds, held, held-size, held-literal, sum-fits, sum, product-fits, product, size-most, unsigned-fits, unsigned}
+use Rattle.figures.proofs.Rounding.{nearest-not-negative}
 use Rattle.figures.proofs.size_of_x.Statement.{statement}
 use Rattle.figures.proofs.size_of_x.Tie as tie
 
@@ -29,38 +31,48 @@ module _ (c : tie.Start) where
   thousand : Holds w64 1_000 (pos 1_000) 1_000
   thousand = held-literal w64 1_000 tt
 
+  abbrev ab : ℕ
+  ab = ofZ w64 (toZ w64 (ofZ w64 (toZ w64 (ofZ w64 (c .args .a)) *ℤ toZ w64 (ofZ w64 (c .args .b)))) *ℤ toZ w64 1_000)
+
+  whole : Holds w64 (ofZ w64 (toZ w64 (c .args .h * c .args .s) +ℤ toZ w64 ab)) (pos (c .args .h * c .args .s) +ℤ c .args .a *ℤ c .args .b *ℤ pos 1_000) (mostH * mostS + mostA * mostB * 1_000)
+  whole = sum hs (product (product a b tt) thousand tt) tt
+
 returns : tie.Need-returns
 unfolding sizeOfX
 returns c =
-    let d = c .before in
-    rounded 10_000_000 (sum (hs d) (product (product (a d) (b d) tt) (thousand d) tt) tt) (c .nearest .ok) (c .nearest .ensures)
+    let w = whole (c .before) in
+    ap pos (c .nearest-size .ensures ∙ ap (λ (n : ℕ). nearestSize n 10_000_000) (unsigned w)) ∙ nearest-not-negative _ 10_000_000 (c .before .pre .4)
 
-mul-nearest : tie.Need-mul-nearest
-mul-nearest c = omega (arith, hs-small c)
+mul-sum : tie.Need-mul-sum
+mul-sum c = omega (arith, hs-small c)
 
-cast-nearest : tie.Need-cast-nearest
-cast-nearest c = omega (arith, hs-small c)
+cast-sum : tie.Need-cast-sum
+cast-sum c = omega (arith, hs-small c)
 
-mul-nearest-2 : tie.Need-mul-nearest-2
-mul-nearest-2 c = product-fits (a c) (b c) tt
+mul-sum-2 : tie.Need-mul-sum-2
+mul-sum-2 c = product-fits (a c) (b c) tt
 
-mul-nearest-3 : tie.Need-mul-nearest-3
-mul-nearest-3 c = product-fits (product (a c) (b c) tt) (thousand c) tt
+mul-sum-3 : tie.Need-mul-sum-3
+mul-sum-3 c = product-fits (product (a c) (b c) tt) (thousand c) tt
 
-add-nearest : tie.Need-add-nearest
-add-nearest c = sum-fits (hs c) (product (product (a c) (b c) tt) (thousand c) tt) tt
+add-sum : tie.Need-add-sum
+add-sum c = sum-fits (hs c) (product (product (a c) (b c) tt) (thousand c) tt) tt
 
-nearest-requires : tie.Need-nearest-requires
-nearest-requires c κs = (size-most (sum (hs c) (product (product (a c) (b c) tt) (thousand c) tt) tt) tt, lit< tt, lit≤ tt)
+cast-nearest-size : tie.Need-cast-nearest-size
+cast-nearest-size c = unsigned-fits (whole c) (c .pre .4) tt
+
+nearest-size-requires : tie.Need-nearest-size-requires
+nearest-size-requires c κs = (size-most (whole c) tt, lit< tt, lit≤ tt)
 
 pub size-of-x-spec : {M : Type 1} → statement M
 size-of-x-spec =
     tie.close
     (tie.spec
-    mul-nearest
-    cast-nearest
-    mul-nearest-2
-    mul-nearest-3
-    add-nearest
-    nearest-requires
+    mul-sum
+    cast-sum
+    mul-sum-2
+    mul-sum-3
+    add-sum
+    cast-nearest-size
+    nearest-size-requires
     returns)
