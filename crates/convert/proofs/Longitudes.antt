@@ -1,8 +1,8 @@
 -- Plane to geographic on a sheet that passes: approximate L, the size of L, which is not negative, and the point, which fits 32 bits. Assumes nothing.
-use mathlib.Core.Path.{_≡_, _∙_}
+use mathlib.Core.Path.{_≡_, sym, ap, _∙_}
 use mathlib.Core.Bool.{true}
 use mathlib.Core.List.{List}
-use Prim.Native.Nat.{ℕ, zero, suc, _+_, _*_, _-_, _≤_}
+use Prim.Native.Nat.{ℕ, zero, suc, _*_, _-_, _≤_, zero-le}
 use native.Mathlib.Nat.{le-trans, mul-le-mul-left}
 use native.Mathlib.Omega.{arith}
 use lib.Dec.{T, lit≤}
@@ -10,14 +10,14 @@ use lib.IntN.{ℤ, pos, negℤ, natAbs, _+ℤ_, _-ℤ_, _*ℤ_}
 use lib.Signed.{nonNeg}
 use Rattle.figures.specs.Ranges.{mostA, mostX}
 use Rattle.figures.specs.Steps.{approximateL, sizeOfL, reduction}
-use Rattle.figures.proofs.Sizes.{sum-nonNeg, size-minus, size-product, product-most}
+use Rattle.figures.proofs.Sizes.{Size, sum-nonNeg, size-minus, size-product, product-most}
 use Rattle.figures.proofs.Rounding.{IsNearest, is-nearest}
-use Rattle.figures.proofs.StepBounds.{reduction-most, approximate-most}
+use Rattle.figures.proofs.StepBounds.{reduction-most, approximate-most, l-size-most}
 use Rattle.contents.specs.Layout.{latitude, northing, easting, stepOf}
 use Rattle.contents.specs.Entries.{rowsOf}
 use Rattle.bodies.specs.Check.{checkOf}
 use Rattle.tables.specs.Figures.{firstLatitude, hAt, aAt, bAt, pAt, dAt}
-use Rattle.tables.proofs.Ranges.{a-most, b-slope, p-between, d-between}
+use Rattle.tables.proofs.Ranges.{a-most, b-between, b-slope, p-between, d-between}
 use Rattle.extent.specs.Extent.{sizeKnown}
 use Rattle.extent.proofs.Reach.{easting-span, size-reach}
 use Rattle.convert.specs.Answers.{geographic}
@@ -73,3 +73,17 @@ module _ (s : List ℕ) (z : checkOf s .number ≡ 0) (x t : ℕ) (hx : x ≤ (r
       let low = approximate-low x (hAt s t) (approximateL x (hAt s t)) (h-least s z t ht) near in
       sum-nonNeg (x * 10_000) (negℤ (aAt s t *ℤ bAt s size))
       (rw (size-minus (aAt s t *ℤ bAt s size), size-product (aAt s t) (bAt s size)) (omega (arith, low, product-most mostA size (a-most s z t ht) b)))
+
+  module _ (known : sizeKnown s (pos (approximateOf s x t)) ≡ true) where
+    -- the same of the figures as they were read, at n
+    pub l-asked : {n : ℕ} {a a′ b b′ : ℤ} → n ≡ approximateOf s x t → a′ ≡ a → a ≡ aAt s t → b′ ≡ b → b ≡ bAt s n → T (nonNeg (pos (x * 10_000) -ℤ a′ *ℤ b′))
+    l-asked n e f g k = rw (e ∙ f, g ∙ k, n) (l-not-negative known)
+
+    -- r is the size of L as a size
+    pub l-between : {r : ℕ} → pos r ≡ sizeOf s x t → Size 0 (sizeOf s x t) 900_040_000_000_000
+    unfolding sizeOf
+    l-between e = record {
+      is = sym e ∙ ap (λ (z : ℤ). pos (natAbs z)) e;
+      low = zero-le;
+      high = l-size-most x (aAt s t) (bAt s (approximateOf s x t)) (hAt s t) x-small (a-most s z t ht) (b-between s z (approximateOf s x t) (size-reach s (pos (approximateOf s x t)) known .high)) (omega (arith, h-least s z t ht))
+    }

@@ -183,7 +183,7 @@ fn size_of(s: &[u8], p: Places, x: u64, t: u64, approximate: u64) -> i64
     let h = tables::h_at(s, p, t);
     let a = tables::a_at(s, p, t);
     let b = tables::b_at(s, p, approximate);
-    figures::size_of_l(x, a, b, h)
+    figures::size_of_l(x, a, b, h) as i64
 }
 
 // The point on the earth, of x′, the latitude's distance t from row 0 and the size of L, which is within its table.

@@ -6,12 +6,14 @@ use native.Mathlib.Nat.{le-trans, div-add-mod', div-eq-of-lt-le, mul-left-comm, 
 use native.Mathlib.Omega.{arith}
 use lib.Dec.{ltb, lit≤}
 use borrow.Author.Tests.{ltb-true, ltb-false}
-use lib.IntN.{ℤ, pos, negℤ, _+ℤ_, _-ℤ_, _*ℤ_, +ℤ-assoc, +ℤ-idr, +ℤ-invr, -ℤ-+ℤ-cancel}
+use lib.IntN.{ℤ, pos, negℤ, _+ℤ_, _-ℤ_, _*ℤ_, +ℤ-assoc, +ℤ-comm, +ℤ-negℤ-cancel, -ℤ-+ℤ-cancel, negℤ-negℤ, negℤ-+ℤ}
+use lib.Signed.{leZ}
 use mir.Syntax.{w64}
 use mir.Val.{Fits}
 use Rattle.figures.specs.Nearest.{withSign, nearestSize, nearest}
 use Rattle.figures.specs.Between.{between, lowered}
 use Rattle.figures.specs.Ranges.{mostRow, mostStep, mostNumerator, mostDivisor}
+use Rattle.figures.proofs.Order.{leZ-shift}
 use Rattle.figures.proofs.Ring.{times-sum, sum-times, swap-last}
 use Rattle.figures.proofs.Sizes.{product-most, pos-minus, subℕ-le, subℕ-lt}
 use Rattle.figures.proofs.Rounding.{is-nearest, nearest-minus, nearestSize-most}
@@ -90,10 +92,6 @@ module _ (d k : ℕ) (some : 0 < d) where
         omega (arith, half-most, div-add-mod' (2 * n + r) (2 * d), mul-left-comm q 2 d, mul-le-mul-left q some)
 
 -- ---- reading between rows
--- (y + z) − z = y
-taken-back : (y z : ℤ) → (y +ℤ z) -ℤ z ≡ y
-taken-back y z = +ℤ-assoc y z (negℤ z) ∙ ap (λ (x : ℤ). y +ℤ x) (+ℤ-invr z) ∙ +ℤ-idr y
-
 -- (a + b) + (c + d) = (a + c) + (b + d)
 regroup : (a b c d : ℤ) → (a +ℤ b) +ℤ (c +ℤ d) ≡ (a +ℤ c) +ℤ (b +ℤ d)
 regroup a b c d =
@@ -119,7 +117,7 @@ module _ (t step : ℕ) (inside : t ≤ step) where
       let back : pos (u * (step - t) + w * t) ≡ (low +ℤ k) *ℤ pos (step - t) +ℤ (next +ℤ k) *ℤ pos t =
       rw (-ℤ-+ℤ-cancel (pos u) k, -ℤ-+ℤ-cancel (pos w) k) in
       ap (λ (x : ℤ). nearest (x -ℤ pos (2_147_483_648 * step)) step) (back ∙ raised-sum low next k)
-      ∙ ap (λ (x : ℤ). nearest x step) (taken-back (low *ℤ pos (step - t) +ℤ next *ℤ pos t) (pos (2_147_483_648 * step)))
+      ∙ ap (λ (x : ℤ). nearest x step) (+ℤ-negℤ-cancel (low *ℤ pos (step - t) +ℤ next *ℤ pos t) (pos (2_147_483_648 * step)))
       ∙ sym (between-weighed t step inside low next)
 
 -- ---- the sum of the rows, weighed, as the code has it
@@ -144,3 +142,18 @@ module _ (u w t step : ℕ) (hu : u ≤ mostRow) (hw : w ≤ mostRow) (ht : t �
 
   pub weighed-fits : Fits w64 (u * (step - t) + w * t)
   weighed-fits = record { fits = omega (arith, weighed-most) }
+
+-- ---- a figure r from its raised word, beside a number z
+raised-back : (r : ℕ) → lowered r +ℤ pos 2_147_483_648 ≡ pos r
+unfolding lowered
+raised-back r = -ℤ-+ℤ-cancel (pos r) (pos 2_147_483_648)
+
+pub raised-not-above : (r : ℕ) (z : ℤ) → leZ (pos r) (z +ℤ pos 2_147_483_648) ≡ leZ (lowered r) z
+raised-not-above r z = rw (← raised-back r) (leZ-shift (lowered r) z (pos 2_147_483_648))
+
+pub raised-height : (r : ℕ) (z : ℤ) → (z +ℤ pos 2_147_483_648) -ℤ pos r ≡ z -ℤ lowered r
+unfolding lowered
+raised-height r z =
+    let k = pos 2_147_483_648 in
+    +ℤ-assoc z k (negℤ (pos r))
+    ∙ ap (λ (x : ℤ). z +ℤ x) (+ℤ-comm k (negℤ (pos r)) ∙ sym (negℤ-+ℤ (pos r) (negℤ k) ∙ ap (λ (x : ℤ). negℤ (pos r) +ℤ x) (negℤ-negℤ k)))

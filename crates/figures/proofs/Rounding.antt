@@ -66,7 +66,7 @@ pub size-nearest : (z : ℤ) (d : ℕ) → natAbs (nearest z d) ≡ nearestSize 
 unfolding nearest
 size-nearest z d = size-withSign z (pos (nearestSize (natAbs z) d))
 
-pub nearest-not-negative : (z : ℤ) (d : ℕ) → T (nonNeg z) → pos (nearestSize (natAbs z) d) ≡ nearest z d
+nearest-not-negative : (z : ℤ) (d : ℕ) → T (nonNeg z) → pos (nearestSize (natAbs z) d) ≡ nearest z d
 unfolding nearest withSign
 nearest-not-negative (pos n) d h = refl
 nearest-not-negative (negsuc n) d h = absurd h
@@ -84,3 +84,7 @@ nearest-multiple (negsuc n) d h = nearest-minus (suc n * d) d h ∙ ap (λ (k : 
 -- a step that hands its numerator to the function `nearest`: r is the call's result, and the bits n hold the numerator z
 pub rounded : {n B : ℕ} {z r : ℤ} (d : ℕ) → Holds w64 n z B → mag r < 2 ^ 63 → r ≡ nearest (toZ w64 n) d → toZ w64 (ofZ w64 r) ≡ nearest z d
 rounded d h ok e = toZ-ofZ (sfits-of ok) ∙ e ∙ ap (λ (z : ℤ). nearest z d) (h .is)
+
+-- the same where the numerator is not negative, and its size went to `nearest_size`
+pub rounded-size : {n B r : ℕ} {z : ℤ} (d : ℕ) → Holds w64 n z B → T (nonNeg z) → r ≡ nearestSize (natAbs (toZ w64 n)) d → pos r ≡ nearest z d
+rounded-size d h s e = ap pos (e ∙ ap (λ (z : ℤ). nearestSize (natAbs z) d) (h .is)) ∙ nearest-not-negative _ d s

@@ -41,6 +41,10 @@ pub sum-nonNeg : (n : ℕ) (z : ℤ) → natAbs z ≤ n → T (nonNeg (pos n +�
 sum-nonNeg n (pos m) h = tt
 sum-nonNeg n (negsuc m) h = rw (subℕ-le {a = n} {b = suc m} h) tt
 
+pub times-nonNeg : (z : ℤ) (n : ℕ) → T (nonNeg z) → T (nonNeg (z *ℤ pos n))
+times-nonNeg (pos m) n h = tt
+times-nonNeg (negsuc m) n h = absurd h
+
 either-most : (k : ℕ) (t : Bool) (x y : ℤ) → (t ≡ true → natAbs x ≤ k) → (t ≡ false → natAbs y ≤ k) → natAbs (cond t x y) ≤ k
 either-most k true x y f g = f refl
 either-most k false x y f g = g refl

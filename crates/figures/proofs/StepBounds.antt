@@ -1,14 +1,14 @@
 -- One step's answer is within what the next step asks, and the differences over 60 seconds meet no half. Assumes nothing.
 use mathlib.Core.Path.{_≡_}
-use Prim.Native.Nat.{ℕ, _*_, _%_, _≤_}
+use Prim.Native.Nat.{ℕ, _+_, _*_, _%_, _<_, _≤_}
 use native.Mathlib.Nat.{le-refl, le-trans}
 use native.Mathlib.Omega.{arith}
 use lib.Dec.{lit<, lit≤}
-use lib.IntN.{ℤ, pos, natAbs, _+ℤ_, _*ℤ_}
+use lib.IntN.{ℤ, pos, natAbs, _+ℤ_, _-ℤ_, _*ℤ_}
 use Rattle.figures.specs.Ranges.{mostH, mostV, mostA, mostB, mostC, mostP, mostM, mostD, mostS, mostQ, mostX, mostWord, mostScale, mostChange}
-use Rattle.figures.specs.Steps.{qOf, sizeOfX, rise, reduction, approximateL, convergence, perSecond}
-use Rattle.figures.proofs.Sizes.{product-most, size-product, sum-most, times-most}
-use Rattle.figures.proofs.Rounding.{nearestSize-most, size-nearest}
+use Rattle.figures.specs.Steps.{qOf, sizeOfX, rise, reduction, approximateL, sizeOfL, convergence, perSecond}
+use Rattle.figures.proofs.Sizes.{product-most, size-product, sum-most, difference-most, times-most}
+use Rattle.figures.proofs.Rounding.{nearestSize-most, nearestSize-le, size-nearest}
 
 -- q of any s within the kind 3 rows is one that `rise` takes
 pub q-most : (s : ℕ) → s ≤ mostS → qOf s ≤ mostQ
@@ -43,6 +43,14 @@ reduction-most p x d h k l =
 pub approximate-most : (x h : ℕ) → x ≤ mostX → 30_000_000 ≤ h → approximateL x h ≤ 30_000
 unfolding approximateL
 approximate-most x h p q = nearestSize-most (x * 10_000) h 30_000 (omega arith) (omega arith)
+
+-- the size of L, in 0.001″, for any H
+pub l-size-most : (x : ℕ) (a b : ℤ) (h : ℕ) → x ≤ mostX → natAbs a ≤ mostA → natAbs b ≤ mostB → 0 < h → natAbs (sizeOfL x a b h) ≤ 900_040_000_000_000
+unfolding sizeOfL
+l-size-most x a b h p q k some =
+    rw (size-nearest ((pos (x * 10_000) -ℤ a *ℤ b) *ℤ pos 1_000) h)
+    (le-trans (nearestSize-le (natAbs ((pos (x * 10_000) -ℤ a *ℤ b) *ℤ pos 1_000)) h some)
+    (times-most (pos (x * 10_000) -ℤ a *ℤ b) (pos 1_000) {A = mostX * 10_000 + mostA * mostB} {B = 1_000} (difference-most (pos (x * 10_000)) (a *ℤ b) {A = mostX * 10_000} {B = mostA * mostB} (omega arith) (times-most a b q k)) (le-refl 1_000)))
 
 -- Δα, in 0.1″
 pub convergence-most : (m : ℕ) (x : ℤ) → m ≤ mostM → natAbs x ≤ mostWord → natAbs (convergence m x) ≤ 21_474_837

@@ -59,7 +59,7 @@ pub fn nearest_less(n: u64, d: u64, k: u64) -> i64
 }
 
 // What a row's figure is raised by, so that it is read without a sign.
-const RAISED: u64 = 2_147_483_648;
+pub const RAISED: u64 = 2_147_483_648;
 
 // The value between two rows of a step, at an offset t up to it, rounded once. u and w are the rows' figures, each raised.
 pub fn between(u: u64, w: u64, t: u64, step: u64) -> i64
@@ -142,12 +142,13 @@ pub fn approximate_l(x: u64, h: u64) -> u64
     nearest_size(x * 10_000, h)
 }
 
-// The size of L, in 0.001″: (|x′| − a·b)/H.
-pub fn size_of_l(x: u64, a: i64, b: i64, h: u64) -> i64
-    requires { ⌜ (x ≤ mostX) × (natAbs a ≤ mostA) × (natAbs b ≤ mostB) × (0 < h) × (h ≤ mostH) ⌝ }
-    ensures { λ r. ⌜ r ≡ sizeOfL x a b h ⌝ }
+// The size of L, in 0.001″: (|x′| − a·b)/H, which is not negative.
+pub fn size_of_l(x: u64, a: i64, b: i64, h: u64) -> u64
+    requires { ⌜ (x ≤ mostX) × (natAbs a ≤ mostA) × (natAbs b ≤ mostB) × (0 < h) × (h ≤ mostH) × T (nonNeg (pos (x * 10_000) -ℤ a *ℤ b)) ⌝ }
+    ensures { λ r. ⌜ pos r ≡ sizeOfL x a b h ⌝ }
 {
-    nearest(((x * 10_000) as i64 - a * b) * 1_000, h)
+    let rest = ((x * 10_000) as i64 - a * b) * 1_000;
+    nearest_size(rest as u64, h)
 }
 
 // Δα, in 0.1″: M·x′.

@@ -69,12 +69,12 @@ pub fn within_rows(rows: usize, step: u64, z: i64) -> bool
     (0 <= z) & (z <= (last as i64))
 }
 
-// Whether row i's figure in column c is not above z.
+// Whether row i's figure in column c is not above z: both are raised.
 fn not_above(b: &[u8], w: usize, c: usize, i: usize, z: i64) -> bool
-    requires { ⌜ 4 * (w * i + c) + 4 ≤ length (now b) ⌝ }
+    requires { ⌜ (4 * (w * i + c) + 4 ≤ length (now b)) × (natAbs z < 2 ^ 62) ⌝ }
     ensures { λ r. ⌜ r ≡ leZ (column (now (b .entry)) w c i) z ⌝ }
 {
-    (words::word(b, w * i + c) as i64) <= z
+    (words::raised_word(b, w * i + c) as i64) <= z + figures::RAISED as i64
 }
 
 // Of the n rows of a rising column, the last whose figure is not above z, which is one from row low to below row high.
@@ -87,7 +87,7 @@ pub fn last_not_above(
     high: usize,
     z: i64,
 ) -> usize
-    requires { ⌜ (low < high) × (high ≤ n) × (4 * (w * n) ≤ length (now b)) × (c < w) × Rising (column (now b) w c) n × (leZ (column (now b) w c low) z ≡ true) × (high < n → ltZ z (column (now b) w c high) ≡ true) ⌝ }
+    requires { ⌜ (low < high) × (high ≤ n) × (4 * (w * n) ≤ length (now b)) × (c < w) × Rising (column (now b) w c) n × (leZ (column (now b) w c low) z ≡ true) × (high < n → ltZ z (column (now b) w c high) ≡ true) × (natAbs z < 2 ^ 62) ⌝ }
     ensures { λ r. ⌜ (r ≡ lastNotAbove (column (now (b .entry)) w c) n z) × (r < n) ⌝ }
 {
     let mut from = low;
@@ -108,7 +108,7 @@ fn height(b: &[u8], c: usize, z: i64) -> u64
     requires { ⌜ (4 * c + 4 ≤ length (now b)) × (leZ (wordAt (now b) c) z ≡ true) × (natAbs z < 2 ^ 62) ⌝ }
     ensures { λ r. ⌜ z ≡ wordAt (now (b .entry)) c +ℤ pos r ⌝ }
 {
-    (z - (words::word(b, c) as i64)) as u64
+    (z + figures::RAISED as i64 - words::raised_word(b, c) as i64) as u64
 }
 
 // The same row where each row is higher than the one before it by least to most: a number d above row 0 can stand no lower than row d / most, and no

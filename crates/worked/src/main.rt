@@ -5,7 +5,9 @@ use libc::STDOUT_FILENO;
 ghost use mathlib.Core.Path.{_≡_};
 ghost use mathlib.Core.Bool.{true};
 ghost use Prim.Native.Nat.{_-_, _*_, _<_, _≤_};
-ghost use lib.IntN.{natAbs};
+ghost use lib.Dec.{T};
+ghost use lib.IntN.{pos, natAbs, _+ℤ_, _-ℤ_, _*ℤ_};
+ghost use lib.Signed.{nonNeg};
 ghost use lib.ListN.{length};
 ghost use Rattle.figures.specs.Ranges.{mostH, mostV, mostA, mostB, mostC, mostP, mostM, mostD, mostS, mostX, mostWord};
 ghost use Rattle.contents.specs.Layout.{latitude, longitude, easting, stepOf};
@@ -213,11 +215,11 @@ fn step_forward(s: u64, h: u64, v: u64, a: i64, b: i64, c: i64)
 
 // The steps back: the reduction, approximate L, and the size of L.
 fn step_back(x: u64, h: u64, a: i64, b: i64, p: u64, d: i64)
-    requires { ⌜ (x ≤ mostX) × (0 < h) × (h ≤ mostH) × (natAbs a ≤ mostA) × (natAbs b ≤ mostB) × (p ≤ mostP) × (natAbs d ≤ mostD) ⌝ }
+    requires { ⌜ (x ≤ mostX) × (0 < h) × (h ≤ mostH) × (natAbs a ≤ mostA) × (natAbs b ≤ mostB) × (p ≤ mostP) × (natAbs d ≤ mostD) × T (nonNeg (pos (x * 10_000) -ℤ a *ℤ b)) ⌝ }
 {
     print_figure(b" reduction ", figures::reduction(p, x, d));
     print_size(b" approximate ", figures::approximate_l(x, h));
-    print_figure(b" L ", figures::size_of_l(x, a, b, h));
+    print_size(b" L ", figures::size_of_l(x, a, b, h));
 }
 
 // Δα.

@@ -1,14 +1,17 @@
 -- `figures::size_of_l` meets its contract. Assumes nothing.
 use borrow.Author.Needs.{needs}
 use native.Mathlib.Omega.{arith}
-use Prim.Native.Nat.{_*_}
-use lib.IntN.{pos}
+use Prim.Native.Nat.{ℕ, _+_, _*_}
+use lib.Dec.{T}
+use lib.IntN.{pos, _-ℤ_, _*ℤ_}
+use lib.Signed.{nonNeg}
 use mir.Syntax.{w64}
-use mir.Val.{ofZ}
+use mir.Val.{toZ, ofZ}
 use Rattle.figures.specs.Steps.{sizeOfL}
 use Rattle.figures.specs.Ranges.{mostX, mostA, mostB}
-use Rattle.figures.proofs.Holds.{Holds, held, held-size, held-literal, difference-fits, difference, product-fits, product, size-most}
-use Rattle.figures.proofs.Rounding.{rounded}
+use Rattle.figures.proofs.Sizes.{times-nonNeg}
+use Rattle.figures.proofs.Holds.{Holds, held, held-size, held-literal, difference-fits, difference, product-fits, product, size-most, unsigned-fits}
+use Rattle.figures.proofs.Rounding.{rounded-size}
 use Rattle.figures.proofs.size_of_l.Statement.{statement}
 use Rattle.figures.proofs.size_of_l.Tie as tie
 
@@ -25,38 +28,49 @@ module _ (c : tie.Start) where
   thousand : Holds w64 1_000 (pos 1_000) 1_000
   thousand = held-literal w64 1_000 tt
 
+  abbrev ab : ℕ
+  ab = ofZ w64 (toZ w64 (ofZ w64 (c .args .a)) *ℤ toZ w64 (ofZ w64 (c .args .b)))
+
+  whole : Holds w64 (ofZ w64 (toZ w64 (ofZ w64 (toZ w64 (c .args .x * 10_000) -ℤ toZ w64 ab)) *ℤ toZ w64 1_000)) ((pos (c .args .x * 10_000) -ℤ c .args .a *ℤ c .args .b) *ℤ pos 1_000) ((mostX * 10_000 + mostA * mostB) * 1_000)
+  whole = product (difference x (product a b tt) tt) thousand tt
+
+  not-negative : T (nonNeg ((pos (c .args .x * 10_000) -ℤ c .args .a *ℤ c .args .b) *ℤ pos 1_000))
+  not-negative = times-nonNeg (pos (c .args .x * 10_000) -ℤ c .args .a *ℤ c .args .b) 1_000 (c .pre .5)
+
 returns : tie.Need-returns
 unfolding sizeOfL
-returns c =
-    let d = c .before in
-    rounded (d .args .h) (product (difference (x d) (product (a d) (b d) tt) tt) (thousand d) tt) (c .nearest .ok) (c .nearest .ensures)
+returns c = let d = c .before in rounded-size (d .args .h) (whole d) (not-negative d) (c .nearest-size .ensures)
 
-mul-nearest : tie.Need-mul-nearest
-mul-nearest c = search needs
+mul-rest : tie.Need-mul-rest
+mul-rest c = search needs
 
-cast-nearest : tie.Need-cast-nearest
-cast-nearest c = search needs
+cast-rest : tie.Need-cast-rest
+cast-rest c = search needs
 
-mul-nearest-2 : tie.Need-mul-nearest-2
-mul-nearest-2 c = product-fits (a c) (b c) tt
+mul-rest-2 : tie.Need-mul-rest-2
+mul-rest-2 c = product-fits (a c) (b c) tt
 
-sub-nearest : tie.Need-sub-nearest
-sub-nearest c = difference-fits (x c) (product (a c) (b c) tt) tt
+sub-rest : tie.Need-sub-rest
+sub-rest c = difference-fits (x c) (product (a c) (b c) tt) tt
 
-mul-nearest-3 : tie.Need-mul-nearest-3
-mul-nearest-3 c = product-fits (difference (x c) (product (a c) (b c) tt) tt) (thousand c) tt
+mul-rest-3 : tie.Need-mul-rest-3
+mul-rest-3 c = product-fits (difference (x c) (product (a c) (b c) tt) tt) (thousand c) tt
 
-nearest-requires : tie.Need-nearest-requires
-nearest-requires c κs = (size-most (product (difference (x c) (product (a c) (b c) tt) tt) (thousand c) tt) tt, omega arith, omega arith)
+cast-nearest-size : tie.Need-cast-nearest-size
+cast-nearest-size c = unsigned-fits (whole c) (not-negative c) tt
+
+nearest-size-requires : tie.Need-nearest-size-requires
+nearest-size-requires c κs = (size-most (whole c) tt, c .pre .3, omega arith)
 
 pub size-of-l-spec : {M : Type 1} → statement M
 size-of-l-spec =
     tie.close
     (tie.spec
-    mul-nearest
-    cast-nearest
-    mul-nearest-2
-    sub-nearest
-    mul-nearest-3
-    nearest-requires
+    mul-rest
+    cast-rest
+    mul-rest-2
+    sub-rest
+    mul-rest-3
+    cast-nearest-size
+    nearest-size-requires
     returns)

@@ -1,17 +1,15 @@
 -- `figures::size_of_x` meets its contract. Assumes nothing.
-use mathlib.Core.Path.{ap, _∙_}
 use Prim.Native.Nat.{ℕ, _+_, _*_, _≤_}
 use native.Mathlib.Omega.{arith}
 use lib.Dec.{lit<, lit≤}
 use lib.IntN.{pos, _+ℤ_, _*ℤ_}
 use mir.Syntax.{w64}
 use mir.Val.{toZ, ofZ}
-use Rattle.figures.specs.Nearest.{nearestSize}
 use Rattle.figures.specs.Steps.{sizeOfX}
 use Rattle.figures.specs.Ranges.{mostH, mostS, mostA, mostB}
 use Rattle.figures.proofs.Sizes.{product-most}
-use Rattle.figures.proofs.Holds.{Holds, held, held-size, held-literal, sum-fits, sum, product-fits, product, size-most, unsigned-fits, unsigned}
-use Rattle.figures.proofs.Rounding.{nearest-not-negative}
+use Rattle.figures.proofs.Holds.{Holds, held, held-size, held-literal, sum-fits, sum, product-fits, product, size-most, unsigned-fits}
+use Rattle.figures.proofs.Rounding.{rounded-size}
 use Rattle.figures.proofs.size_of_x.Statement.{statement}
 use Rattle.figures.proofs.size_of_x.Tie as tie
 
@@ -39,9 +37,7 @@ module _ (c : tie.Start) where
 
 returns : tie.Need-returns
 unfolding sizeOfX
-returns c =
-    let w = whole (c .before) in
-    ap pos (c .nearest-size .ensures ∙ ap (λ (n : ℕ). nearestSize n 10_000_000) (unsigned w)) ∙ nearest-not-negative _ 10_000_000 (c .before .pre .4)
+returns c = rounded-size 10_000_000 (whole (c .before)) (c .before .pre .4) (c .nearest-size .ensures)
 
 mul-sum : tie.Need-mul-sum
 mul-sum c = omega (arith, hs-small c)

@@ -88,7 +88,7 @@ not-above-requires : tie.Need-not-above-requires Inv-loop μ-loop
 not-above-requires c κs =
     let s = c .before .before .before in
     let l = c .before .loop in
-    row-within (s .args .b .now) (s .args .w) (s .args .c) (s .args .n) (s .pre .2) (s .pre .3) (l .from + (l .to - l .from) / 2) (omega arith)
+    (row-within (s .args .b .now) (s .args .w) (s .args .c) (s .args .n) (s .pre .2) (s .pre .3) (l .from + (l .to - l .from) / 2) (omega arith), rw (toZ-ofZ (s .fits .z)) (s .pre .7))
 
 pub last-not-above-spec : {M : Type 1} → statement M
 last-not-above-spec =

@@ -54,6 +54,7 @@ last-not-above-requires c κs =
       rises-rising f (a .n) (a .least) (a .most) (p .5) (p .3),
       few-not-above f (a .n) (a .least) (a .most) (p .5) z d h (c .before .cut .result) (omega arith) (omega arith),
       λ l. many-above f (a .n) (a .least) (a .most) (p .5) z d h (p .3) (c .cut2 .result + 1) l (omega arith),
+      rw (toZ-ofZ (s .fits .z)) (p .7),
     )
 
 div-cut : tie.Need-div-cut
