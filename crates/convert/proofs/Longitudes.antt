@@ -85,5 +85,5 @@ module _ (s : List ℕ) (z : checkOf s .number ≡ 0) (x t : ℕ) (hx : x ≤ (r
     l-between e = record {
       is = sym e ∙ ap (λ (z : ℤ). pos (natAbs z)) e;
       low = zero-le;
-      high = l-size-most x (aAt s t) (bAt s (approximateOf s x t)) (hAt s t) x-small (a-most s z t ht) (b-between s z (approximateOf s x t) (size-reach s (pos (approximateOf s x t)) known .high)) (omega (arith, h-least s z t ht))
+      high = l-size-most x (aAt s t) (bAt s (approximateOf s x t)) (hAt s t) x-small (a-most s z t ht) (b-between s z (approximateOf s x t) (size-reach s (pos (approximateOf s x t)) known .high)) (omega (arith, h-least s z t ht));
     }

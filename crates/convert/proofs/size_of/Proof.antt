@@ -41,9 +41,14 @@ size-of-l-requires c κs =
     let p = c .before .before .before .before .pre in
     let h = c .before .before .h-at .ensures in
     let a = c .before .a-at in
-    let b = c .b-at in
-    (x-small _ (p .0) _ _ (p .2) (p .3), bits-most (a .result) (a .ok) (a .ensures .1), bits-most (b .result) (b .ok) (b .ensures .1), omega (arith, h .1), h .2
-    , l-asked _ (p .0) _ _ (p .2) (p .3) (rw (p .4) at (p .5)) (p .4) (bits-is (a .ok)) (a .ensures .0) (bits-is (b .ok)) (b .ensures .0))
+    let b = c .b-at in (
+      x-small _ (p .0) _ _ (p .2) (p .3),
+      bits-most (a .result) (a .ok) (a .ensures .1),
+      bits-most (b .result) (b .ok) (b .ensures .1),
+      omega (arith, h .1),
+      h .2,
+      l-asked _ (p .0) _ _ (p .2) (p .3) (rw (p .4) at (p .5)) (p .4) (bits-is (a .ok)) (a .ensures .0) (bits-is (b .ok)) (b .ensures .0),
+    )
 
 cast-result : tie.Need-cast-result
 cast-result c =

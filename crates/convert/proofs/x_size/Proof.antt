@@ -38,9 +38,13 @@ size-of-x-requires c κs =
     let p = start .pre in
     let b : toZ w64 (ofZ w64 (start .args .b)) ≡ start .args .b = search needs in
     let h = c .before .h-at in
-    let a = c .a-at in
-    (h .ensures .2, s-most _ (p .0) _ (p .2) _ (p .3), bits-most (a .result) (a .ok) (a .ensures .1), rw (b, p .4) (b-between _ (p .0) _ (p .3))
-    , x-asked _ (p .0) _ (p .2) _ (p .3) (h .ensures .0) (bits-is (a .ok)) (a .ensures .0) b (p .4))
+    let a = c .a-at in (
+      h .ensures .2,
+      s-most _ (p .0) _ (p .2) _ (p .3),
+      bits-most (a .result) (a .ok) (a .ensures .1),
+      rw (b, p .4) (b-between _ (p .0) _ (p .3)),
+      x-asked _ (p .0) _ (p .2) _ (p .3) (h .ensures .0) (bits-is (a .ok)) (a .ensures .0) b (p .4),
+    )
 
 cast-result : tie.Need-cast-result
 cast-result c =

@@ -21,17 +21,17 @@ slice-aggregate-print-size c = search needs
 print-size-requires : tie.Need-print-size-requires
 print-size-requires c κs = search needs
 
-slice-aggregate-print-figure : tie.Need-slice-aggregate-print-figure
-slice-aggregate-print-figure c = search needs
+slice-aggregate-print-size-2 : tie.Need-slice-aggregate-print-size-2
+slice-aggregate-print-size-2 c = search needs
 
 size-of-x-requires : tie.Need-size-of-x-requires
 size-of-x-requires c κs = search needs
 
-print-figure-requires : tie.Need-print-figure-requires
-print-figure-requires c κs = search needs
+print-size-requires-2 : tie.Need-print-size-requires-2
+print-size-requires-2 c κs = search needs
 
-slice-aggregate-print-figure-2 : tie.Need-slice-aggregate-print-figure-2
-slice-aggregate-print-figure-2 c = search needs
+slice-aggregate-print-figure : tie.Need-slice-aggregate-print-figure
+slice-aggregate-print-figure c = search needs
 
 rise-requires : tie.Need-rise-requires
 rise-requires c κs =
@@ -40,8 +40,8 @@ rise-requires c κs =
     let q : c .before .before .before .before .before .before .q-of .result ≤ mostQ = rw (c .before .before .before .before .before .before .q-of .ensures) (q-most _ (start .pre .0)) in
     (start .pre .2, q, rw c-is (start .pre .5))
 
-print-figure-requires-2 : tie.Need-print-figure-requires-2
-print-figure-requires-2 c κs = search needs
+print-figure-requires : tie.Need-print-figure-requires
+print-figure-requires c κs = search needs
 
 pub step-forward-spec : {M : Type 1} → statement M
 step-forward-spec =
@@ -50,10 +50,10 @@ step-forward-spec =
     q-of-requires
     slice-aggregate-print-size
     print-size-requires
-    slice-aggregate-print-figure
+    slice-aggregate-print-size-2
     size-of-x-requires
-    print-figure-requires
-    slice-aggregate-print-figure-2
+    print-size-requires-2
+    slice-aggregate-print-figure
     rise-requires
-    print-figure-requires-2
+    print-figure-requires
     returns)
