@@ -8,6 +8,7 @@ use lib.Dec.{eqb}
 use borrow.Author.Tests.{eqb-true}
 use Rattle.contents.specs.Layout.{entryCount, lastKind}
 use Rattle.contents.specs.Entries.{kindAt, named, entryOf}
+use Rattle.contents.proofs.ByKind.{by-kind}
 
 -- 1 where the kind is k, and how many of the first n entries name k
 abbrev hit : ℕ → ℕ → ℕ
@@ -18,14 +19,7 @@ count s k zero = 0
 count s k (suc n) = hit k (kindAt s n) + count s k n
 
 one-hit : (kind : ℕ) → 1 ≤ kind → kind ≤ lastKind → hit 1 kind + hit 2 kind + hit 3 kind + hit 4 kind + hit 5 kind + hit 6 kind ≡ 1
-one-hit zero l h = absurd (omega arith)
-one-hit (suc zero) l h = refl
-one-hit (suc (suc zero)) l h = refl
-one-hit (suc (suc (suc zero))) l h = refl
-one-hit (suc (suc (suc (suc zero)))) l h = refl
-one-hit (suc (suc (suc (suc (suc zero))))) l h = refl
-one-hit (suc (suc (suc (suc (suc (suc zero)))))) l h = refl
-one-hit (suc (suc (suc (suc (suc (suc (suc k))))))) l h = absurd (omega arith)
+one-hit = by-kind (λ (k : ℕ). hit 1 k + hit 2 k + hit 3 k + hit 4 k + hit 5 k + hit 6 k ≡ 1) refl refl refl refl refl refl
 
 -- each entry names one kind
 total : (s : List ℕ) (n : ℕ) → ((e : ℕ) → e < n → (1 ≤ kindAt s e) × (kindAt s e ≤ lastKind))
@@ -79,11 +73,11 @@ each-kind s known fresh k l h = found s k entryCount (some k l h)
     most k = once s k 6 fresh
 
     some : (k : ℕ) → 1 ≤ k → k ≤ 6 → 0 < count s k 6
-    some zero l h = absurd (omega arith)
-    some (suc zero) l h = omega (arith, all, most 2, most 3, most 4, most 5, most 6)
-    some (suc (suc zero)) l h = omega (arith, all, most 1, most 3, most 4, most 5, most 6)
-    some (suc (suc (suc zero))) l h = omega (arith, all, most 1, most 2, most 4, most 5, most 6)
-    some (suc (suc (suc (suc zero)))) l h = omega (arith, all, most 1, most 2, most 3, most 5, most 6)
-    some (suc (suc (suc (suc (suc zero))))) l h = omega (arith, all, most 1, most 2, most 3, most 4, most 6)
-    some (suc (suc (suc (suc (suc (suc zero)))))) l h = omega (arith, all, most 1, most 2, most 3, most 4, most 5)
-    some (suc (suc (suc (suc (suc (suc (suc k))))))) l h = absurd (omega arith)
+    some =
+        by-kind (λ (k : ℕ). 0 < count s k 6)
+        (omega (arith, all, most 2, most 3, most 4, most 5, most 6))
+        (omega (arith, all, most 1, most 3, most 4, most 5, most 6))
+        (omega (arith, all, most 1, most 2, most 4, most 5, most 6))
+        (omega (arith, all, most 1, most 2, most 3, most 5, most 6))
+        (omega (arith, all, most 1, most 2, most 3, most 4, most 6))
+        (omega (arith, all, most 1, most 2, most 3, most 4, most 5))

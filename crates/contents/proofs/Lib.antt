@@ -1,4 +1,5 @@
 -- Laws of the contents. Other crates cite them.
+pub mod ByKind
 pub mod Limits
 pub mod Search
 pub mod Spans

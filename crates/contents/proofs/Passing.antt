@@ -18,6 +18,7 @@ use Rattle.contents.specs.Layout.{entryCount, lastKind, firstBody, least
 use Rattle.contents.specs.Entries.{kindAt, startAt, rowsAt, spanAt, named, dueAt, entryOf, startOf, rowsOf, bodyOf}
 use Rattle.contents.specs.Contents.{sized, ends, verdict, numberOf, inEntries, entryFault, contentsOf}
 use Rattle.contents.proofs.Limits.{within-true, sized-true}
+use Rattle.contents.proofs.ByKind.{by-kind}
 use Rattle.contents.proofs.EachKind.{each-kind}
 
 -- ---- an entry
@@ -99,14 +100,7 @@ module _ (s : List ℕ) (none : firstFault (entryFault s) entryCount 0 .number �
 
 -- ---- each kind's body
 least-some : (k : ℕ) → 1 ≤ k → k ≤ lastKind → 0 < leastRows k
-least-some zero l h = absurd (omega arith)
-least-some (suc zero) l h = lit< tt
-least-some (suc (suc zero)) l h = lit< tt
-least-some (suc (suc (suc zero))) l h = lit< tt
-least-some (suc (suc (suc (suc zero)))) l h = lit< tt
-least-some (suc (suc (suc (suc (suc zero))))) l h = lit< tt
-least-some (suc (suc (suc (suc (suc (suc zero)))))) l h = lit< tt
-least-some (suc (suc (suc (suc (suc (suc (suc k))))))) l h = absurd (omega arith)
+least-some = by-kind (λ (k : ℕ). 0 < leastRows k) (lit< tt) (lit< tt) (lit< tt) (lit< tt) (lit< tt) (lit< tt)
 
 -- where a body is due, no later one is due before
 due-rises : (s : List ℕ) (e d : ℕ) → dueAt s e ≤ dueAt s (d + e)

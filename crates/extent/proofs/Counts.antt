@@ -2,7 +2,7 @@
 use mathlib.Core.Path.{_≡_, ap, _∙_}
 use mathlib.Core.Bool.{Bool}
 use mathlib.Core.List.{List}
-use Prim.Native.Nat.{ℕ, zero, suc, _-_, _<_, _≤_}
+use Prim.Native.Nat.{ℕ, _-_, _<_, _≤_}
 use native.Mathlib.Nat.{le-trans}
 use native.Mathlib.Omega.{arith}
 use lib.Dec.{lit≤}
@@ -13,25 +13,19 @@ use Rattle.contents.specs.declared.Places.{Places}
 use Rattle.contents.specs.Layout.{lastKind, latitude, mostRows, stepOf}
 use Rattle.contents.specs.Entries.{rowsOf, placeOf, placesOf}
 use Rattle.contents.proofs.Passing.{rows-some, rows-most}
+use Rattle.contents.proofs.ByKind.{by-kind}
 use Rattle.bodies.specs.Check.{checkOf}
 use Rattle.reading.specs.Tables.{withinRows}
 use Rattle.tables.proofs.Parts.{contents-none, step-most}
 use Rattle.tables.proofs.Ranges.{latitude-some}
 use Rattle.tables.proofs.ByName.{latitude-place}
 
-most-small : (kind : ℕ) → kind ≤ lastKind → mostRows kind ≤ 1_200
-most-small zero h = lit≤ tt
-most-small (suc zero) h = lit≤ tt
-most-small (suc (suc zero)) h = lit≤ tt
-most-small (suc (suc (suc zero))) h = lit≤ tt
-most-small (suc (suc (suc (suc zero)))) h = lit≤ tt
-most-small (suc (suc (suc (suc (suc zero))))) h = lit≤ tt
-most-small (suc (suc (suc (suc (suc (suc zero)))))) h = lit≤ tt
-most-small (suc (suc (suc (suc (suc (suc (suc k))))))) h = absurd (omega arith)
+most-small : (kind : ℕ) → 1 ≤ kind → kind ≤ lastKind → mostRows kind ≤ 1_200
+most-small = by-kind (λ (k : ℕ). mostRows k ≤ 1_200) (lit≤ tt) (lit≤ tt) (lit≤ tt) (lit≤ tt) (lit≤ tt) (lit≤ tt)
 
 module _ (s : List ℕ) (kind : ℕ) (z : checkOf s .number ≡ 0) (l : 1 ≤ kind) (h : kind ≤ lastKind) where
   pub count-small : rowsOf s kind ≤ 1_200
-  count-small = le-trans (rows-most s (contents-none s z) kind l h) (most-small kind h)
+  count-small = le-trans (rows-most s (contents-none s z) kind l h) (most-small kind l h)
 
   module _ (p : Place) (e : p ≡ placeOf s kind) where
     pub count-some : 0 < p .rows
@@ -42,7 +36,7 @@ module _ (s : List ℕ) (kind : ℕ) (z : checkOf s .number ≡ 0) (l : 1 ≤ ki
 
     module _ (step : ℕ) (q : step ≡ stepOf kind) where
       pub its-step : step ≤ mostStep
-      its-step = rw q (step-most kind h)
+      its-step = rw q (step-most kind l h)
 
       pub within-is : (r : Bool) (x y : ℤ) → y ≡ x → r ≡ withinRows (p .rows) step y → r ≡ withinRows (rowsOf s kind) (stepOf kind) x
       within-is r x y same a = a ∙ rw (e, q, same)

@@ -3,7 +3,7 @@
 use mathlib.Core.Path.{_≡_, sym, ap, _∙_}
 use mathlib.Core.Bool.{true}
 use mathlib.Core.List.{List}
-use Prim.Native.Nat.{ℕ, zero, suc, _+_, _*_, _-_, _^_, _<_, _≤_}
+use Prim.Native.Nat.{ℕ, _+_, _*_, _-_, _^_, _<_, _≤_}
 use native.Mathlib.Nat.{mul-comm, le-trans, le-of-lt}
 use borrow.Author.Needs.{sfits-of}
 use mir.Facts.{toZ-ofZ}
@@ -23,6 +23,7 @@ use Rattle.contents.specs.Layout.{lastKind, mostBytes, widthOf, leastRows, step
 use Rattle.contents.specs.Entries.{rowsOf, placeOf}
 use Rattle.contents.specs.Contents.{numberOf, contentsOf}
 use Rattle.contents.proofs.Passing.{passed, rows-least}
+use Rattle.contents.proofs.ByKind.{by-kind}
 use Rattle.bodies.specs.Check.{checkOf}
 use Rattle.bodies.proofs.Sound.{passes-sound}
 use Rattle.bodies.proofs.Parts.{part-rows}
@@ -36,26 +37,19 @@ use Rattle.tables.specs.Figures.{figureOf, figureAt}
 pub contents-none : (s : List ℕ) → checkOf s .number ≡ 0 → contentsOf s .number ≡ 0
 contents-none s z = ap numberOf (passes-sound s z .contents)
 
-pub step-most : (kind : ℕ) → kind ≤ lastKind → stepOf kind ≤ mostStep
-step-most zero h = lit≤ tt
-step-most (suc zero) h = lit≤ tt
-step-most (suc (suc zero)) h = lit≤ tt
-step-most (suc (suc (suc zero))) h = lit≤ tt
-step-most (suc (suc (suc (suc zero)))) h = lit≤ tt
-step-most (suc (suc (suc (suc (suc zero))))) h = lit≤ tt
-step-most (suc (suc (suc (suc (suc (suc zero)))))) h = lit≤ tt
-step-most (suc (suc (suc (suc (suc (suc (suc k))))))) h = absurd (omega arith)
+pub step-most : (kind : ℕ) → 1 ≤ kind → kind ≤ lastKind → stepOf kind ≤ mostStep
+step-most = by-kind (λ (k : ℕ). stepOf k ≤ mostStep) (lit≤ tt) (lit≤ tt) (lit≤ tt) (lit≤ tt) (lit≤ tt) (lit≤ tt)
 
 -- a kind with a step has two rows or more
-least-two : (kind : ℕ) → 0 < stepOf kind → 2 ≤ leastRows kind
-least-two zero h = absurd (omega arith)
-least-two (suc zero) h = absurd (omega arith)
-least-two (suc (suc zero)) h = lit≤ tt
-least-two (suc (suc (suc zero))) h = lit≤ tt
-least-two (suc (suc (suc (suc zero)))) h = lit≤ tt
-least-two (suc (suc (suc (suc (suc zero))))) h = lit≤ tt
-least-two (suc (suc (suc (suc (suc (suc zero)))))) h = lit≤ tt
-least-two (suc (suc (suc (suc (suc (suc (suc k))))))) h = absurd (omega arith)
+least-two : (kind : ℕ) → 1 ≤ kind → kind ≤ lastKind → 0 < stepOf kind → 2 ≤ leastRows kind
+least-two =
+    by-kind (λ (k : ℕ). 0 < stepOf k → 2 ≤ leastRows k)
+    (λ h. absurd (omega arith))
+    (λ h. lit≤ tt)
+    (λ h. lit≤ tt)
+    (λ h. lit≤ tt)
+    (λ h. lit≤ tt)
+    (λ h. lit≤ tt)
 
 -- the bytes from word a, n words of them, as a part is cut
 abbrev pub cut : List ℕ → ℕ → ℕ → List ℕ
@@ -104,10 +98,10 @@ module _ (s : List ℕ) (kind : ℕ) (z : checkOf s .number ≡ 0) (l : 1 ≤ ki
       step-some = rw st some
 
       pub step-small : step ≤ mostStep
-      step-small = rw st (step-most kind h)
+      step-small = rw st (step-most kind l h)
 
       pub rows-two : 2 ≤ p .rows
-      rows-two = rw e (le-trans (least-two kind some) (rows-least s (contents-none s z) kind l h))
+      rows-two = rw e (le-trans (least-two kind l h some) (rows-least s (contents-none s z) kind l h))
 
       module _ (number offset : ℕ) where
         pub column-inside : number < widthOf kind → number < width
