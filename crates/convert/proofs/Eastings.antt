@@ -1,7 +1,7 @@
 -- Geographic to plane on a sheet that passes: the size of x′ is not negative, and x and y fit 32 bits. Assumes nothing.
-use mathlib.Core.Path.{_≡_, sym, ap, _∙_}
+use mathlib.Core.Path.{_≡_, ap, _∙_}
 use mathlib.Core.List.{List}
-use Prim.Native.Nat.{ℕ, _*_, _-_, _≤_, zero-le}
+use Prim.Native.Nat.{ℕ, _*_, _-_, _≤_}
 use native.Mathlib.Nat.{le-trans, mul-le-mul-right}
 use native.Mathlib.Omega.{arith}
 use lib.Dec.{T}
@@ -10,7 +10,7 @@ use lib.Signed.{nonNeg}
 use Rattle.figures.specs.Nearest.{withSign}
 use Rattle.figures.specs.Ranges.{mostH, mostV, mostA, mostS}
 use Rattle.figures.specs.Steps.{qOf, sizeOfX, rise}
-use Rattle.figures.proofs.Sizes.{Size, sum-nonNeg, size-product, size-withSign, sum-most, product-most}
+use Rattle.figures.proofs.Sizes.{Size, size-from, sum-nonNeg, size-product, size-withSign, sum-most, product-most}
 use Rattle.figures.proofs.StepBounds.{q-most, x-size-most, rise-most}
 use Rattle.contents.specs.Layout.{latitude, longitude, stepOf}
 use Rattle.contents.specs.Entries.{rowsOf}
@@ -65,7 +65,7 @@ module _ (s : List ℕ) (z : checkOf s .number ≡ 0) (t : ℕ) (ht : t ≤ (row
 
     -- r is the size of x′ as a size
     pub x-between : {r : ℕ} → pos r ≡ xSize s t size → Size 0 (xSize s t size) 61_204_000
-    x-between e = record { is = sym e ∙ ap (λ (z : ℤ). pos (natAbs z)) e; low = zero-le; high = x-size }
+    x-between e = size-from e x-size
 
     pub y-rise : natAbs (rise (vAt s t) (qOf size) (cAt s size)) ≤ 504_200
     y-rise = rise-most (vAt s t) (qOf size) (cAt s size) v-most (q-most size s-most) (c-between s z size hl)

@@ -1,8 +1,8 @@
 -- Plane to geographic on a sheet that passes: approximate L, the size of L, which is not negative, and the point, which fits 32 bits. Assumes nothing.
-use mathlib.Core.Path.{_≡_, sym, ap, _∙_}
+use mathlib.Core.Path.{_≡_, _∙_}
 use mathlib.Core.Bool.{true}
 use mathlib.Core.List.{List}
-use Prim.Native.Nat.{ℕ, zero, suc, _*_, _-_, _≤_, zero-le}
+use Prim.Native.Nat.{ℕ, zero, suc, _*_, _-_, _≤_}
 use native.Mathlib.Nat.{le-trans, mul-le-mul-left}
 use native.Mathlib.Omega.{arith}
 use lib.Dec.{T, lit≤}
@@ -10,7 +10,7 @@ use lib.IntN.{ℤ, pos, negℤ, natAbs, _+ℤ_, _-ℤ_, _*ℤ_}
 use lib.Signed.{nonNeg}
 use Rattle.figures.specs.Ranges.{mostA, mostX}
 use Rattle.figures.specs.Steps.{approximateL, sizeOfL, reduction}
-use Rattle.figures.proofs.Sizes.{Size, sum-nonNeg, size-minus, size-product, product-most}
+use Rattle.figures.proofs.Sizes.{Size, size-from, sum-nonNeg, size-minus, size-product, product-most}
 use Rattle.figures.proofs.Rounding.{IsNearest, is-nearest}
 use Rattle.figures.proofs.StepBounds.{reduction-most, approximate-most, l-size-most}
 use Rattle.contents.specs.Layout.{latitude, northing, easting, stepOf}
@@ -82,8 +82,6 @@ module _ (s : List ℕ) (z : checkOf s .number ≡ 0) (x t : ℕ) (hx : x ≤ (r
     -- r is the size of L as a size
     pub l-between : {r : ℕ} → pos r ≡ sizeOf s x t → Size 0 (sizeOf s x t) 900_040_000_000_000
     unfolding sizeOf
-    l-between e = record {
-      is = sym e ∙ ap (λ (z : ℤ). pos (natAbs z)) e;
-      low = zero-le;
-      high = l-size-most x (aAt s t) (bAt s (approximateOf s x t)) (hAt s t) x-small (a-most s z t ht) (b-between s z (approximateOf s x t) (size-reach s (pos (approximateOf s x t)) known .high)) (omega (arith, h-least s z t ht));
-    }
+    l-between e =
+        let approximate = approximateOf s x t in
+        size-from e (l-size-most x (aAt s t) (bAt s approximate) (hAt s t) x-small (a-most s z t ht) (b-between s z approximate (size-reach s (pos approximate) known .high)) (omega (arith, h-least s z t ht)))

@@ -39,7 +39,7 @@ pub struct Grid {
 
 // ---- geographic to plane
 
-// The size of x′, in 0.01 ft, at the latitude's distance t from row 0 and the size of L, of which b was read.
+// The size of x′, in 0.01 ft, at the latitude's distance t from row 0 and the size of L, with b read there.
 fn x_size(s: &[u8], p: Places, t: u64, size: u64, b: i64) -> i64
     requires { ⌜ (checkOf (now s) .number ≡ 0) × (p ≡ placesOf (now s)) × (t ≤ (rowsOf (now s) latitude - 1) * stepOf latitude) × (size ≤ (rowsOf (now s) longitude - 1) * stepOf longitude) × (b ≡ bAt (now s) size) ⌝ }
     ensures { λ r. ⌜ (r ≡ xSize (now (s .entry)) t size) × (natAbs r ≤ 61_204_000) ⌝ }
@@ -49,7 +49,7 @@ fn x_size(s: &[u8], p: Places, t: u64, size: u64, b: i64) -> i64
     figures::size_of_x(h, size, a, b) as i64
 }
 
-// x, in 0.01 ft, with b of the size of L.
+// x, in 0.01 ft, with b read at the size of L.
 fn x_of(s: &[u8], p: Places, t: u64, l: i64, b: i64) -> i32
     requires { ⌜ (checkOf (now s) .number ≡ 0) × (p ≡ placesOf (now s)) × (t ≤ (rowsOf (now s) latitude - 1) * stepOf latitude) × (natAbs l ≤ (rowsOf (now s) longitude - 1) * stepOf longitude) × (b ≡ bAt (now s) (natAbs l)) ⌝ }
     ensures { λ r. ⌜ r ≡ xOf (now (s .entry)) t l ⌝ }
@@ -58,7 +58,7 @@ fn x_of(s: &[u8], p: Places, t: u64, l: i64, b: i64) -> i32
     (x + tables::false_easting(s, p)) as i32
 }
 
-// y, in 0.01 ft, with c of the size of L.
+// y, in 0.01 ft, with c read at the size of L.
 fn y_of(s: &[u8], p: Places, t: u64, size: u64, c: i64) -> i32
     requires { ⌜ (checkOf (now s) .number ≡ 0) × (p ≡ placesOf (now s)) × (t ≤ (rowsOf (now s) latitude - 1) * stepOf latitude) × (size ≤ (rowsOf (now s) longitude - 1) * stepOf longitude) × (c ≡ cAt (now s) size) ⌝ }
     ensures { λ r. ⌜ r ≡ yOf (now (s .entry)) t size ⌝ }

@@ -28,6 +28,14 @@ short : (a e : ℕ) → pos a -ℤ pos (a + e) ≡ negℤ (pos e)
 short a zero = pos-minus a (a + 0) ∙ subℕ-le {a = a} {b = a + 0} (omega arith) ∙ ap pos (omega arith)
 short a (suc e) = pos-minus a (a + suc e) ∙ subℕ-lt {a = a} {b = a + suc e} (omega arith) ∙ ap (λ (j : ℕ). negℤ (pos (suc j))) (omega arith)
 
+-- what holds on either side of m holds
+either-side : {A : Type 0} (n m : ℕ) → (n < m → A) → (m ≤ n → A) → A
+either-side {A} n m f g = pick (ltb n m) refl
+  where
+    pick : (t : Bool) → ltb n m ≡ t → A
+    pick true e = f (ltb-true n m e)
+    pick false e = g (ltb-false n m e)
+
 module _ (d k : ℕ) (some : 0 < d) where
   -- n/d = k + m/d
   up : (m x : ℕ) → x ≡ 2 * (k * d + m) + d → x / (2 * d) ≡ k + nearestSize m d
@@ -72,19 +80,14 @@ module _ (d k : ℕ) (some : 0 < d) where
 
   -- r is the code's half
   module _ (n r : ℕ) (low : n < k * d → r + 1 ≡ d) (high : k * d ≤ n → r ≡ d) where
-    on-each-side : (t : Bool) → ltb n (k * d) ≡ t → pos ((2 * n + r) / (2 * d)) -ℤ pos k ≡ nearest (pos n -ℤ pos (k * d)) d
-    on-each-side true e = let h = ltb-true n (k * d) e in let e = low h in nearest-below n (2 * n + r) h (omega arith)
-    on-each-side false e = let h = ltb-false n (k * d) e in let e = high h in nearest-above n (2 * n + r) h (omega arith)
-
     pub nearest-less : pos ((2 * n + r) / (2 * d)) -ℤ pos k ≡ nearest (pos n -ℤ pos (k * d)) d
-    nearest-less = on-each-side (ltb n (k * d)) refl
-
-    most-each-side : (t : Bool) → ltb n (k * d) ≡ t → r ≤ d
-    most-each-side true e = let h = low (ltb-true n (k * d) e) in omega arith
-    most-each-side false e = let h = high (ltb-false n (k * d) e) in omega arith
+    nearest-less =
+        either-side n (k * d)
+        (λ h. let e = low h in nearest-below n (2 * n + r) h (omega arith))
+        (λ h. let e = high h in nearest-above n (2 * n + r) h (omega arith))
 
     pub half-most : r ≤ d
-    half-most = most-each-side (ltb n (k * d)) refl
+    half-most = either-side n (k * d) (λ h. let e = low h in omega arith) (λ h. let e = high h in omega arith)
 
     pub half-of-most : n ≤ mostNumerator → d ≤ mostDivisor → (2 * n + r) / (2 * d) ≤ 8_500_000_000_000_000_000
     half-of-most hn hd =

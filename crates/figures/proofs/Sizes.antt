@@ -152,3 +152,7 @@ pub record Size (least : ℕ) (x : ℤ) (most : ℕ) : Type 0 where
 -- so it is not negative
 pub size-nonNeg : {least most : ℕ} {x : ℤ} → Size least x most → T (nonNeg x)
 size-nonNeg h = rw (h .is) tt
+
+-- what was worked as a size r
+pub size-from : {r most : ℕ} {x : ℤ} → pos r ≡ x → natAbs x ≤ most → Size 0 x most
+size-from e h = record { is = sym e ∙ ap (λ (z : ℤ). pos (natAbs z)) e; low = zero-le; high = h }

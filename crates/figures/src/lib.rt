@@ -51,7 +51,7 @@ fn half(n: u64, d: u64, raised: u64) -> u64
 }
 
 // The nearest whole number to n/d less k, a half away from zero, without a size taken and a sign put back.
-pub fn nearest_less(n: u64, d: u64, k: u64) -> i64
+fn nearest_less(n: u64, d: u64, k: u64) -> i64
     requires { ⌜ (n ≤ mostNumerator) × (0 < d) × (d ≤ mostDivisor) × (k ≤ mostRow) × (k * d ≤ mostNumerator) ⌝ }
     ensures { λ r. ⌜ r ≡ nearest (pos n -ℤ pos (k * d)) d ⌝ }
 {

@@ -1,6 +1,6 @@
 // Reading tables: a column's value at an offset, and the row of a reduced northing.
 ghost use mathlib.Core.Path.{_≡_};
-ghost use mathlib.Core.Bool.{true, cond};
+ghost use mathlib.Core.Bool.{true};
 ghost use Prim.Native.Nat.{_+_, _-_, _*_, _^_, _<_, _≤_, min};
 ghost use lib.ListN.{length};
 ghost use lib.IntN.{pos, natAbs, _+ℤ_};
@@ -77,13 +77,6 @@ fn not_above(b: &[u8], w: usize, c: usize, i: usize, z: i64) -> bool
     (words::raised_word(b, w * i + c) as i64) <= z + figures::RAISED as i64
 }
 
-// a where t holds, else b.
-fn chosen(t: bool, a: usize, b: usize) -> usize
-    ensures { λ r. ⌜ r ≡ cond t a b ⌝ }
-{
-    if t { a } else { b }
-}
-
 // Of the n rows of a rising column, the last whose figure is not above z, which is one from row low to below row high.
 pub fn last_not_above(
     b: &[u8],
@@ -101,9 +94,11 @@ pub fn last_not_above(
     let mut to = high;
     while from + 1 < to {
         let mid = from + (to - from) / 2;
-        let up = not_above(b, w, c, mid, z);
-        from = chosen(up, mid, from);
-        to = chosen(up, to, mid);
+        if not_above(b, w, c, mid, z) {
+            from = mid;
+        } else {
+            to = mid;
+        }
     }
     from // the one row left
 }

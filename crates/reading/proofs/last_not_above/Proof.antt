@@ -1,9 +1,8 @@
 -- `reading::last_not_above` meets its contract. The loop keeps row `from` not above z, and row `to` above it or past the last row; `to - from` falls.
 -- Assumes nothing.
 use native.Mathlib.Omega.{arith}
-use borrow.Author.Needs.{needs}
-use mathlib.Core.Path.{_≡_, refl, sym, _∙_}
-use mathlib.Core.Bool.{Bool, true, false, cond}
+use mathlib.Core.Path.{_≡_, sym, _∙_}
+use mathlib.Core.Bool.{Bool, true, false}
 use Prim.Native.Nat.{ℕ, _+_, _-_, _/_, _<_, _≤_}
 use lib.IntN.{ℤ}
 use lib.Signed.{leZ, ltZ}
@@ -33,20 +32,10 @@ module _ (f : ℕ → ℤ) (n : ℕ) (z : ℤ) {from to : ℕ} (k : Bracket f n 
   down : (mid : ℕ) (t : Bool) → from < mid → mid < to → t ≡ leZ (f mid) z → t ≡ false → Bracket f n z from mid
   down mid t g h e q = record { some = g; rows = omega arith; under = k .under; over = λ l. above-of (f mid) z (sym e ∙ q) }
 
-  -- either way, as the code chooses
-  step : (mid : ℕ) (t : Bool) → from < mid → mid < to → t ≡ leZ (f mid) z → Bracket f n z (cond t mid from) (cond t to mid)
-  step mid true g h e = up mid true h e refl
-  step mid false g h e = down mid false g h e refl
-
   -- where one row is left, that is the row
   one-left : Rising f n → to ≤ from + 1 → from ≡ lastNotAbove f n z
   one-left rising h =
       only-last f z n from rising (omega arith) (k .under) (λ l. let e : from + 1 ≡ to = omega arith in rw e (k .over (omega arith)))
-
--- and fewer rows are left
-fewer : (t : Bool) (from mid to : ℕ) → from < mid → mid < to → cond t to mid - cond t mid from < to - from
-fewer true from mid to g h = omega arith
-fewer false from mid to g h = omega arith
 
 abbrev Inv-loop : tie.InvT-loop
 Inv-loop b w c n low high z from₀ to₀ from to = Bracket (column b w c) n (toZ w64 z) from to
@@ -68,16 +57,23 @@ loop-holds c =
 
 loop-again : tie.Need-loop-again Inv-loop μ-loop
 loop-again c =
-    let a = c .before .before .before .before .before .before .args in
-    let l = c .before .before .before .before .loop in
-    let up = c .before .before .not-above in
-    rw (c .before .chosen .ensures, c .chosen2 .ensures)
-    (step (column (a .b .now) (a .w) (a .c)) (a .n) (toZ w64 (ofZ w64 (a .z))) (l .inv) (l .from + (l .to - l .from) / 2) (up .result) (omega arith) (omega arith) (up .ensures))
+    let a = c .before .before .before .before .before .args in
+    let l = c .before .before .before .loop in
+    up (column (a .b .now) (a .w) (a .c)) (a .n) (toZ w64 (ofZ w64 (a .z))) (l .inv) (l .from + (l .to - l .from) / 2) (c .before .not-above .result)
+    (omega arith) (c .before .not-above .ensures) (c .if1 .taken)
+
+loop-again-2 : tie.Need-loop-again-2 Inv-loop μ-loop
+loop-again-2 c =
+    let a = c .before .before .before .before .before .args in
+    let l = c .before .before .before .loop in
+    down (column (a .b .now) (a .w) (a .c)) (a .n) (toZ w64 (ofZ w64 (a .z))) (l .inv) (l .from + (l .to - l .from) / 2) (c .before .not-above .result)
+    (omega arith) (omega arith) (c .before .not-above .ensures) (c .if1 .left)
 
 loop-less : tie.Need-loop-less Inv-loop μ-loop
-loop-less c =
-    let l = c .before .before .before .before .loop in
-    rw (c .before .chosen .ensures, c .chosen2 .ensures) (fewer (c .before .before .not-above .result) (l .from) (l .from + (l .to - l .from) / 2) (l .to) (omega arith) (omega arith))
+loop-less c = omega arith
+
+loop-less-2 : tie.Need-loop-less-2 Inv-loop μ-loop
+loop-less-2 c = omega arith
 
 add-loop : tie.Need-add-loop Inv-loop μ-loop
 add-loop c = omega arith
@@ -94,12 +90,6 @@ not-above-requires c κs =
     let l = c .before .loop in
     (row-within (s .args .b .now) (s .args .w) (s .args .c) (s .args .n) (s .pre .2) (s .pre .3) (l .from + (l .to - l .from) / 2) (omega arith), rw (toZ-ofZ (s .fits .z)) (s .pre .7))
 
-chosen-requires : tie.Need-chosen-requires Inv-loop μ-loop
-chosen-requires c κs = search needs
-
-chosen-requires-2 : tie.Need-chosen-requires-2 Inv-loop μ-loop
-chosen-requires-2 c κs = search needs
-
 pub last-not-above-spec : {M : Type 1} → statement M
 last-not-above-spec =
     tie.close
@@ -111,8 +101,8 @@ last-not-above-spec =
     sub-mid
     add-mid
     not-above-requires
-    chosen-requires
-    chosen-requires-2
     loop-less
     loop-again
+    loop-less-2
+    loop-again-2
     returns)
