@@ -103,7 +103,7 @@ least-some : (k : ℕ) → 1 ≤ k → k ≤ lastKind → 0 < leastRows k
 least-some = by-kind (λ (k : ℕ). 0 < leastRows k) (lit< tt) (lit< tt) (lit< tt) (lit< tt) (lit< tt) (lit< tt)
 
 -- where a body is due, no later one is due before
-due-rises : (s : List ℕ) (e d : ℕ) → dueAt s e ≤ dueAt s (d + e)
+pub due-rises : (s : List ℕ) (e d : ℕ) → dueAt s e ≤ dueAt s (d + e)
 unfolding dueAt
 due-rises s e zero = omega (arith, ap (dueAt s) (zero-add e))
 due-rises s e (suc d) = omega (arith, due-rises s e d, ap (dueAt s) (suc-add d e))

@@ -122,7 +122,7 @@ pub fn geographic_to_plane(sheet: &[u8], latitude: i32, longitude: i32) -> Plane
 // ---- plane to geographic
 
 // The reduced northing, in 0.01 ft, at the size x of x′ and y.
-fn reduced_northing(s: &[u8], p: Places, x: u64, y: i32) -> i64
+pub fn reduced_northing(s: &[u8], p: Places, x: u64, y: i32) -> i64
     requires { ⌜ (checkOf (now s) .number ≡ 0) × (p ≡ placesOf (now s)) × (x ≤ (rowsOf (now s) easting - 1) * stepOf easting) × (northingKnown (now s) y ≡ true) ⌝ }
     ensures { λ r. ⌜ (r ≡ reducedNorthing (now (s .entry)) x y) × (natAbs r < 2 ^ 62) ⌝ }
 {

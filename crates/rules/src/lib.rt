@@ -39,7 +39,7 @@ pub fn rises(x: i32, next: i32, least: i32, most: i32) -> bool
 }
 
 // Whether x is y.
-fn same_as(x: i32, y: i32) -> bool
+pub fn same_as(x: i32, y: i32) -> bool
     ensures { λ r. ⌜ r ≡ sameAs x y ⌝ }
 {
     x == y

@@ -2,5 +2,6 @@
 pub mod TwosComplement
 pub mod Writing
 pub mod PartWords
+pub mod PuttingParts
 pub mod Refusals
 pub mod FirstFault

@@ -1,0 +1,73 @@
+-- The correction's steps in the shape of the code: what a callee answered, against the definition. Assumes nothing.
+use mathlib.Core.Path.{_≡_, sym, _∙_}
+use mathlib.Core.Bool.{Bool, true}
+use mathlib.Core.List.{List}
+use Prim.Native.Nat.{ℕ, _+_, _-_, _*_, _<_, _≤_}
+use lib.IntN.{ℤ}
+use Rattle.words.specs.Words.{putWord}
+use Rattle.words.proofs.Refusals.{where-below, where-beyond}
+use Rattle.rules.specs.declared.Figures.{Figures}
+use Rattle.rules.specs.declared.Differences.{Differences}
+use Rattle.rules.specs.Latitude.{withinBounds, differencesOf, noDifferences}
+use Rattle.rows.specs.Rows.{figuresAt}
+use Rattle.correct.specs.Correction.{boundBefore, boundAfter, putFigures, putDifferences, workedAt, reworked}
+
+-- ---- the bounds; g is the neighbour
+module _ (b : List ℕ) (r : ℕ) (f : Figures) where
+  pub before-is : (g : Figures) (t : Bool) → 0 < r → g ≡ figuresAt b (r - 1) → t ≡ withinBounds g f → t ≡ boundBefore b r f
+  unfolding boundBefore
+  before-is g t h e q = q ∙ rw e (sym (where-below 0 r (withinBounds (figuresAt b (r - 1)) f) true h))
+
+  pub none-before : r ≤ 0 → true ≡ boundBefore b r f
+  unfolding boundBefore
+  none-before h = sym (where-beyond 0 r (withinBounds (figuresAt b (r - 1)) f) true h)
+
+  module _ (n : ℕ) where
+    pub after-is : (g : Figures) (t : Bool) → r + 1 < n → g ≡ figuresAt b (r + 1) → t ≡ withinBounds f g → t ≡ boundAfter b n r f
+    unfolding boundAfter
+    after-is g t h e q = q ∙ rw e (sym (where-below (r + 1) n (withinBounds f (figuresAt b (r + 1))) true h))
+
+    pub none-after : n ≤ r + 1 → true ≡ boundAfter b n r f
+    unfolding boundAfter
+    none-after h = sym (where-beyond (r + 1) n (withinBounds f (figuresAt b (r + 1))) true h)
+
+    -- and what they show, where there is a neighbour
+    pub bound-before : boundBefore b r f ≡ true → 0 < r → withinBounds (figuresAt b (r - 1)) f ≡ true
+    unfolding boundBefore
+    bound-before e h = sym (where-below 0 r (withinBounds (figuresAt b (r - 1)) f) true h) ∙ e
+
+    pub bound-after : boundAfter b n r f ≡ true → r + 1 < n → withinBounds f (figuresAt b (r + 1)) ≡ true
+    unfolding boundAfter
+    bound-after e h = sym (where-below (r + 1) n (withinBounds f (figuresAt b (r + 1))) true h) ∙ e
+
+-- ---- the differences; g is the row, h the next
+module _ (b : List ℕ) (n i : ℕ) (d : Differences) where
+  pub worked-with : (g h : Figures) → i + 1 < n → g ≡ figuresAt b i → h ≡ figuresAt b (i + 1) → d ≡ differencesOf g h → d ≡ workedAt b n i
+  unfolding workedAt
+  worked-with g h l e q w = w ∙ rw (e, q) (sym (where-below (i + 1) n (differencesOf (figuresAt b i) (figuresAt b (i + 1))) noDifferences l))
+
+  pub worked-last : n ≤ i + 1 → d ≡ noDifferences → d ≡ workedAt b n i
+  unfolding workedAt
+  worked-last l w = w ∙ sym (where-beyond (i + 1) n (differencesOf (figuresAt b i) (figuresAt b (i + 1))) noDifferences l)
+
+  pub rework-is : (t : List ℕ) → d ≡ workedAt b n i → t ≡ putDifferences b i d → t ≡ reworked b n i
+  unfolding reworked
+  rework-is t e q = q ∙ rw e
+
+pub read-bounds : (b : List ℕ) (n i : ℕ) (g h : Figures) → i + 1 < n → g ≡ figuresAt b i → h ≡ figuresAt b (i + 1)
+    → (i + 1 < n → withinBounds (figuresAt b i) (figuresAt b (i + 1)) ≡ true) → withinBounds g h ≡ true
+read-bounds b n i g h l e q w = rw (e, q) (w l)
+
+-- ---- word after word
+module _ (b : List ℕ) (i : ℕ) (x y z : ℤ) (t₁ t₂ t₃ : List ℕ) where
+  pub four-put : (f : Figures) (u : ℤ) (t₄ : List ℕ) → x ≡ f .y0 → y ≡ f .h → z ≡ f .v → u ≡ f .a
+      → t₁ ≡ putWord b (8 * i + 1) x → t₂ ≡ putWord t₁ (8 * i + 3) y → t₃ ≡ putWord t₂ (8 * i + 5) z → t₄ ≡ putWord t₃ (8 * i + 7) u
+      → t₄ ≡ putFigures b i f
+  unfolding putFigures
+  four-put f u t₄ ex ey ez eu p q r s = rw (s, r, q, p, ex, ey, ez, eu)
+
+  pub three-put : (d : Differences) → x ≡ d .y → y ≡ d .h → z ≡ d .v
+      → t₁ ≡ putWord b (8 * i + 2) x → t₂ ≡ putWord t₁ (8 * i + 4) y → t₃ ≡ putWord t₂ (8 * i + 6) z
+      → t₃ ≡ putDifferences b i d
+  unfolding putDifferences
+  three-put d ex ey ez p q r = rw (r, q, p, ex, ey, ez)

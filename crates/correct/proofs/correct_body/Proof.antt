@@ -1,0 +1,70 @@
+-- `correct::correct_body` meets its contract. Assumes nothing.
+use mathlib.Core.Path.{_≡_, sym, ap, _∙_}
+use mathlib.Core.Bool.{true}
+use Prim.Native.Nat.{ℕ}
+use lib.IntN.{ℤ}
+use denote.Ref.{now}
+use mir.Syntax.{w32}
+use mir.Val.{toZ, ofZ}
+use Rattle.correct.specs.Correction.{namedRow, hasRow, boundBefore, boundAfter, judgedBy}
+use Rattle.correct.proofs.Judged.{Kept, refused-stays, accepted-keeps, accepted-writes}
+use borrow.Author.Needs.{needs}
+use Rattle.correct.proofs.correct_body.Statement.{statement}
+use Rattle.correct.proofs.correct_body.Tie as tie
+
+module _ (c : tie.After-judge) where
+  same : toZ w32 (ofZ w32 (c .before .before .before .args .minute)) ≡ c .before .before .before .args .minute
+  same = search needs
+
+  judged : c .judge .result ≡ judgedBy (now (c .before .before .before .args .b)) (c .before .before .before .args .n) (c .before .before .before .args .minute) (c .before .before .before .args .f)
+  judged =
+      let a = c .before .before .before .args in
+      c .judge .ensures ∙ ap (λ (m : ℤ). judgedBy (now (a .b)) (a .n) m (a .f)) same
+
+keeps : (c : tie.Else1) → Kept (now (c .before .before .before .before .args .b)) (c .before .before .before .before .args .n) (c .before .before .before .before .args .minute) (c .before .before .before .before .args .f)
+keeps c = accepted-keeps _ _ _ _ _ (judged (c .before)) (c .if1 .left)
+
+named : (c : tie.After-named-row) → c .named-row .result ≡ namedRow (now (c .before .before .before .before .before .before .args .b)) (c .before .before .before .before .before .before .args .minute)
+named c = c .named-row .ensures .0 ∙ ap (namedRow _) (same (c .before .before .before))
+
+judge-requires : tie.Need-judge-requires
+judge-requires c κs = search needs
+
+same-length : tie.Need-same-length
+same-length c = search needs
+
+returns : tie.Need-returns
+returns c = (judged (c .before), refused-stays _ _ _ _ _ (judged (c .before)) (c .if1 .taken))
+
+named-row-requires : tie.Need-named-row-requires
+named-row-requires c κs =
+    let start = c .before .before .before .before .before in
+    (start .pre .0, start .pre .1, ap (hasRow _ _) (same (c .before .before)) ∙ keeps (c .before) .row)
+
+rewrite-requires : tie.Need-rewrite-requires
+rewrite-requires c κs =
+    let start = c .before .before .before .before .before .before .before in
+    let k = keeps (c .before .before .before) in
+    let before = ap (λ (r : ℕ). boundBefore (now (start .args .b)) r (start .args .f)) (named (c .before)) ∙ k .before in
+    let after = ap (λ (r : ℕ). boundAfter (now (start .args .b)) (start .args .n) r (start .args .f)) (named (c .before)) ∙ k .after in
+    (start .pre .1, c .before .named-row .ensures .1, k .range, before, after)
+
+same-length-2 : tie.Need-same-length-2
+same-length-2 c = search needs
+
+returns-2 : tie.Need-returns-2
+returns-2 c =
+    let j = c .before .before .before .before .before .before .before in
+    (judged j, accepted-writes _ _ _ _ _ (judged j) (c .before .before .before .before .before .before .if1 .left) _ _ (named (c .before .before .before .before)) (c .before .before .rewrite .ensures))
+
+pub correct-body-spec : {M : Type 1} → statement M
+correct-body-spec =
+    tie.close
+    (tie.spec
+    judge-requires
+    same-length
+    returns
+    named-row-requires
+    rewrite-requires
+    same-length-2
+    returns-2)

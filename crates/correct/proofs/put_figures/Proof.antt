@@ -1,0 +1,83 @@
+-- `correct::put_figures` meets its contract. Assumes nothing.
+use mathlib.Core.Path.{_≡_}
+use denote.Ref.{now}
+use mir.Syntax.{w32}
+use mir.Val.{toZ, ofZ}
+use Rattle.correct.proofs.Steps.{four-put}
+use borrow.Author.Needs.{needs}
+use Rattle.correct.proofs.put_figures.Statement.{statement}
+use Rattle.correct.proofs.put_figures.Tie as tie
+
+-- f's last figure, as its word is put
+a-read : (c : tie.After-put-word4) → toZ w32 (ofZ w32 (c .before .before .before .before .before .before .before .before .before .before .before .before .before .before .before .before .before .before .before .args .f .a)) ≡ c .before .before .before .before .before .before .before .before .before .before .before .before .before .before .before .before .before .before .before .args .f .a
+a-read c = search needs
+
+mul-put-word : tie.Need-mul-put-word
+mul-put-word c = search needs
+
+add-put-word : tie.Need-add-put-word
+add-put-word c = search needs
+
+put-word-requires : tie.Need-put-word-requires
+put-word-requires c κs = search needs
+
+mul-put-word-2 : tie.Need-mul-put-word-2
+mul-put-word-2 c = search needs
+
+add-put-word-2 : tie.Need-add-put-word-2
+add-put-word-2 c = search needs
+
+put-word-requires-2 : tie.Need-put-word-requires-2
+put-word-requires-2 c κs = search needs
+
+mul-put-word-3 : tie.Need-mul-put-word-3
+mul-put-word-3 c = search needs
+
+add-put-word-3 : tie.Need-add-put-word-3
+add-put-word-3 c = search needs
+
+put-word-requires-3 : tie.Need-put-word-requires-3
+put-word-requires-3 c κs = search needs
+
+mul-put-word-4 : tie.Need-mul-put-word-4
+mul-put-word-4 c = search needs
+
+add-put-word-4 : tie.Need-add-put-word-4
+add-put-word-4 c = search needs
+
+put-word-requires-4 : tie.Need-put-word-requires-4
+put-word-requires-4 c κs = search needs
+
+same-length : tie.Need-same-length
+same-length c = search needs
+
+returns : tie.Need-returns
+returns c =
+    let w₄ = c .before .before in
+    let w₃ = w₄ .before .before .before .before .before in
+    let w₂ = w₃ .before .before .before .before .before in
+    let w₁ = w₂ .before .before .before .before .before in
+    let a = w₁ .before .before .before .before .args in
+    let y0 : toZ w32 (ofZ w32 (a .f .y0)) ≡ a .f .y0 = search needs in
+    let h : toZ w32 (ofZ w32 (a .f .h)) ≡ a .f .h = search needs in
+    let v : toZ w32 (ofZ w32 (a .f .v)) ≡ a .f .v = search needs in
+    four-put (now (a .b)) (a .i) _ _ _ _ _ _ (a .f) _ _ y0 h v (a-read w₄) (w₁ .put-word .ensures) (w₂ .put-word2 .ensures) (w₃ .put-word3 .ensures) (w₄ .put-word4 .ensures)
+
+pub put-figures-spec : {M : Type 1} → statement M
+put-figures-spec =
+    tie.close
+    (tie.spec
+    mul-put-word
+    add-put-word
+    put-word-requires
+    mul-put-word-2
+    add-put-word-2
+    put-word-requires-2
+    mul-put-word-3
+    add-put-word-3
+    put-word-requires-3
+    mul-put-word-4
+    add-put-word-4
+    put-word-requires-4
+    same-length
+    returns)

@@ -1,0 +1,84 @@
+-- "Correction. It gives a minute and new y0, H, V, a. It answers one number". s is the sheet, b its latitude body, the part that holds its n rows; i and r are rows, counted
+-- from 0, and f the new figures. What it looks at: "the contents, the first latitude row's minute, the named row [..] and its neighbours".
+use mathlib.Core.Bool.{Bool, true, _&&_}
+use mathlib.Core.List.{List}
+use Prim.Native.Nat.{ℕ, _+_, _-_, _*_}
+use lib.IntN.{ℤ, pos, natAbs, _-ℤ_}
+use Rattle.words.specs.Words.{wordAt, putWord}
+use Rattle.words.specs.Parts.{putPart}
+use Rattle.words.specs.Ladder.{need, whereBelow, whereIs, orElse}
+use Rattle.contents.specs.Layout.{latitude, widthOf}
+use Rattle.contents.specs.Entries.{startOf, rowsOf, bodyOf}
+use Rattle.contents.specs.Contents.{contentsOf}
+use Rattle.rules.specs.declared.Figures.{Figures}
+use Rattle.rules.specs.declared.Differences.{Differences}
+use Rattle.rules.specs.Limits.{inRange, sameAs}
+use Rattle.rules.specs.Latitude.{figuresInRange, withinBounds, differencesOf, noDifferences}
+use Rattle.rows.specs.Rows.{figuresAt, rowAt}
+
+-- The new figures as one: y0 (0.01 ft), H (0.000001), V (0.000001), a (0.001).
+abbrev pub figures : ℤ → ℤ → ℤ → ℤ → Figures
+figures y0 h v a = record { y0 = y0; h = h; v = v; a = a }
+
+-- ---- the named row: "the first row's minute fixes its place, and its own minute must agree"
+unfoldable pub fromFirstMinute : List ℕ → ℤ → ℤ
+fromFirstMinute b minute = minute -ℤ rowAt b 0 .minute
+
+abbrev pub namedRow : List ℕ → ℤ → ℕ
+namedRow b minute = natAbs (fromFirstMinute b minute)
+
+-- False exactly where 16 is due: "no row with the correction's minute". The minute has no range of its own.
+unfoldable pub hasRow : List ℕ → ℕ → ℤ → Bool
+hasRow b n minute = inRange (pos 0) (fromFirstMinute b minute) (pos (n - 1)) && sameAs (rowAt b (namedRow b minute) .minute) minute
+
+-- ---- "8 for a bound broken with either neighbour": with the row before, where there is one, and with the row after, where there is one
+unfoldable pub boundBefore : List ℕ → ℕ → Figures → Bool
+boundBefore b r f = whereBelow 0 r (withinBounds (figuresAt b (r - 1)) f) true
+
+unfoldable pub boundAfter : List ℕ → ℕ → ℕ → Figures → Bool
+boundAfter b n r f = whereBelow (r + 1) n (withinBounds f (figuresAt b (r + 1))) true
+
+-- "then 16, 6 for a new figure out of range, 8 for a bound broken with either neighbour"
+unfoldable pub judgedBy : List ℕ → ℕ → ℤ → Figures → ℕ
+judgedBy b n minute f =
+    need (hasRow b n minute) 16
+    (need (figuresInRange f) 6
+    (need (boundBefore b (namedRow b minute) f) 8
+    (need (boundAfter b n (namedRow b minute) f) 8
+    0)))
+
+-- "It answers one number: 1 to 5", as the check gives them, "then 16, 6 [..], 8". 0 is "accepted".
+unfoldable pub correctionOf : List ℕ → ℤ → Figures → ℕ
+correctionOf s minute f = orElse (λ n. n) (contentsOf s .number) (judgedBy (bodyOf s latitude) (rowsOf s latitude) minute f)
+
+-- ---- "Accepted, it writes the four figures and the reworked differences of that row and the row before"
+unfoldable pub putFigures : List ℕ → ℕ → Figures → List ℕ
+putFigures b i f = putWord (putWord (putWord (putWord b (8 * i + 1) (f .y0)) (8 * i + 3) (f .h)) (8 * i + 5) (f .v)) (8 * i + 7) (f .a)
+
+unfoldable pub putDifferences : List ℕ → ℕ → Differences → List ℕ
+putDifferences b i d = putWord (putWord (putWord b (8 * i + 2) (d .y)) (8 * i + 4) (d .h)) (8 * i + 6) (d .v)
+
+-- Row i's differences as its figures and the next row's give them; in the last row all three are 0.
+unfoldable pub workedAt : List ℕ → ℕ → ℕ → Differences
+workedAt b n i = whereBelow (i + 1) n (differencesOf (figuresAt b i) (figuresAt b (i + 1))) noDifferences
+
+unfoldable pub reworked : List ℕ → ℕ → ℕ → List ℕ
+reworked b n i = putDifferences b i (workedAt b n i)
+
+-- The body with f in row r, and the differences of row r and of the row before it, where there is one, worked again.
+unfoldable pub rewritten : List ℕ → ℕ → ℕ → Figures → List ℕ
+rewritten b n r f =
+    let own = reworked (putFigures b r f) n r in
+    whereBelow 0 r (reworked own n (r - 1)) own
+
+-- The body after the correction. "Refused, it writes nothing."
+unfoldable pub correctedBody : List ℕ → ℕ → ℤ → Figures → List ℕ
+correctedBody b n minute f = whereIs (judgedBy b n minute f) 0 (rewritten b n (namedRow b minute) f) b
+
+-- The sheet with f in row r; "all other bytes stay".
+unfoldable pub withRow : List ℕ → ℕ → Figures → List ℕ
+withRow s r f = putPart s (startOf s latitude) (rowsOf s latitude * widthOf latitude) (rewritten (bodyOf s latitude) (rowsOf s latitude) r f)
+
+-- The sheet after the correction.
+unfoldable pub correctedOf : List ℕ → ℤ → Figures → List ℕ
+correctedOf s minute f = whereIs (correctionOf s minute f) 0 (withRow s (namedRow (bodyOf s latitude) minute) f) s

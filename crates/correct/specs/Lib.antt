@@ -1,0 +1,2 @@
+-- The definitions of the correction of one latitude row.
+pub mod Correction

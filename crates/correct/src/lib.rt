@@ -1,0 +1,171 @@
+// The correction of one latitude row: judged by the check's own rules, then written with the differences that it moves.
+use rules::Differences;
+use rules::Figures;
+ghost use mathlib.Core.Path.{_≡_};
+ghost use mathlib.Core.Bool.{true};
+ghost use Prim.Native.Nat.{_+_, _*_, _<_, _≤_};
+ghost use lib.ListN.{length};
+ghost use Rattle.rules.specs.Latitude.{figuresInRange, withinBounds};
+ghost use Rattle.rows.specs.Rows.{figuresAt};
+ghost use Rattle.correct.specs.Correction.{fromFirstMinute, namedRow, hasRow, boundBefore, boundAfter, judgedBy, correctionOf, putFigures, putDifferences, workedAt, reworked, rewritten, correctedBody, figures, correctedOf};
+
+// The place of the minute's row: how far the minute stands from the first row's.
+fn from_first_minute(b: &[u8], minute: i32) -> i64
+    requires { ⌜ 32 ≤ length (now b) ⌝ }
+    ensures { λ r. ⌜ r ≡ fromFirstMinute (now (b .entry)) minute ⌝ }
+{
+    (minute as i64) - (words::word(b, 0) as i64)
+}
+
+// Whether a latitude body of n rows has a row with the minute, in the place that the first row's minute gives it.
+pub fn has_row(b: &[u8], n: usize, minute: i32) -> bool
+    requires { ⌜ (0 < n) × (32 * n ≤ length (now b)) ⌝ }
+    ensures { λ r. ⌜ r ≡ hasRow (now (b .entry)) n minute ⌝ }
+{
+    let place = from_first_minute(b, minute);
+    if place < 0 {
+        return false;
+    }
+    if (n as i64) <= place {
+        return false;
+    }
+    let own = words::word(b, 8 * (place as usize));
+    rules::same_as(own, minute)
+}
+
+// The row with the minute, which the body has.
+pub fn named_row(b: &[u8], n: usize, minute: i32) -> usize
+    requires { ⌜ (0 < n) × (32 * n ≤ length (now b)) × (hasRow (now b) n minute ≡ true) ⌝ }
+    ensures { λ r. ⌜ (r ≡ namedRow (now (b .entry)) minute) × (r < n) ⌝ }
+{
+    from_first_minute(b, minute) as usize
+}
+
+// Whether row r with the new figures keeps its bounds with the row before.
+fn bound_before(b: &[u8], r: usize, f: Figures) -> bool
+    requires { ⌜ 32 * r ≤ length (now b) ⌝ }
+    ensures { λ t. ⌜ t ≡ boundBefore (now (b .entry)) r f ⌝ }
+{
+    if 0 < r {
+        return rules::within_bounds(rows::figures_at(b, r - 1), f);
+    }
+    true
+}
+
+// Whether row r of n with the new figures keeps its bounds with the row after.
+fn bound_after(b: &[u8], n: usize, r: usize, f: Figures) -> bool
+    requires { ⌜ (32 * n ≤ length (now b)) × (r < n) ⌝ }
+    ensures { λ t. ⌜ t ≡ boundAfter (now (b .entry)) n r f ⌝ }
+{
+    if r + 1 < n {
+        return rules::within_bounds(f, rows::figures_at(b, r + 1));
+    }
+    true
+}
+
+// 16, 6 or 8, or 0 where the new figures are accepted for the minute's row.
+fn judge(b: &[u8], n: usize, minute: i32, f: Figures) -> u32
+    requires { ⌜ (0 < n) × (32 * n ≤ length (now b)) ⌝ }
+    ensures { λ r. ⌜ r ≡ judgedBy (now (b .entry)) n minute f ⌝ }
+{
+    if !has_row(b, n, minute) {
+        return 16;
+    }
+    if !rules::figures_in_range(f) {
+        return 6;
+    }
+    let r = named_row(b, n, minute);
+    if !bound_before(b, r, f) {
+        return 8;
+    }
+    if !bound_after(b, n, r, f) {
+        return 8;
+    }
+    0
+}
+
+// The figures become row i's.
+fn put_figures(b: &mut [u8], i: usize, f: Figures)
+    requires { ⌜ 32 * i + 32 ≤ length (now b) ⌝ }
+    ensures { λ _. ⌜ now (b .exit) ≡ putFigures (now (b .entry)) i f ⌝ }
+{
+    words::put_word(b, 8 * i + 1, f.y0);
+    words::put_word(b, 8 * i + 3, f.h);
+    words::put_word(b, 8 * i + 5, f.v);
+    words::put_word(b, 8 * i + 7, f.a);
+}
+
+// The differences become row i's.
+fn put_differences(b: &mut [u8], i: usize, d: Differences)
+    requires { ⌜ 32 * i + 32 ≤ length (now b) ⌝ }
+    ensures { λ _. ⌜ now (b .exit) ≡ putDifferences (now (b .entry)) i d ⌝ }
+{
+    words::put_word(b, 8 * i + 2, d.y);
+    words::put_word(b, 8 * i + 4, d.h);
+    words::put_word(b, 8 * i + 6, d.v);
+}
+
+// The differences of row i of n, as its figures and the next row's give them.
+fn worked_at(b: &[u8], n: usize, i: usize) -> Differences
+    requires { ⌜ (32 * n ≤ length (now b)) × (i < n) × (i + 1 < n → withinBounds (figuresAt (now b) i) (figuresAt (now b) (i + 1)) ≡ true) ⌝ }
+    ensures { λ d. ⌜ d ≡ workedAt (now (b .entry)) n i ⌝ }
+{
+    if i + 1 < n {
+        return rules::differences_of(rows::figures_at(b, i), rows::figures_at(b, i + 1));
+    }
+    rules::no_differences()
+}
+
+// Row i's differences are worked again and written.
+fn rework(b: &mut [u8], n: usize, i: usize)
+    requires { ⌜ (32 * n ≤ length (now b)) × (i < n) × (i + 1 < n → withinBounds (figuresAt (now b) i) (figuresAt (now b) (i + 1)) ≡ true) ⌝ }
+    ensures { λ _. ⌜ now (b .exit) ≡ reworked (now (b .entry)) n i ⌝ }
+{
+    let d = worked_at(b, n, i);
+    put_differences(b, i, d);
+}
+
+// Row r of n gets the new figures, and it and the row before it their differences.
+fn rewrite(b: &mut [u8], n: usize, r: usize, f: Figures)
+    requires { ⌜ (32 * n ≤ length (now b)) × (r < n) × (figuresInRange f ≡ true) × (boundBefore (now b) r f ≡ true) × (boundAfter (now b) n r f ≡ true) ⌝ }
+    ensures { λ _. ⌜ now (b .exit) ≡ rewritten (now (b .entry)) n r f ⌝ }
+{
+    put_figures(b, r, f);
+    rework(b, n, r);
+    if 0 < r {
+        rework(b, n, r - 1);
+    }
+}
+
+// 16, 6 or 8, and the body of n rows stays; or 0, and the minute's row has the new figures.
+fn correct_body(b: &mut [u8], n: usize, minute: i32, f: Figures) -> u32
+    requires { ⌜ (0 < n) × (32 * n ≤ length (now b)) ⌝ }
+    ensures answer { λ r. ⌜ r ≡ judgedBy (now (b .entry)) n minute f ⌝ }
+    ensures memory { λ _. ⌜ now (b .exit) ≡ correctedBody (now (b .entry)) n minute f ⌝ }
+{
+    let number = judge(b, n, minute, f);
+    if number != 0 {
+        return number;
+    }
+    let r = named_row(b, n, minute);
+    rewrite(b, n, r, f);
+    number
+}
+
+// A correction of the minute's latitude row: new y0 (0.01 ft), H (0.000001), V (0.000001) and a (0.001). 0 where it is accepted and written; else 1 to 5, 16, 6 or 8, and the
+// sheet stays as it was. The latitude body is lent to its corrector as the part of the sheet that holds it.
+pub fn correct(sheet: &mut [u8], minute: i32, y0: i32, h: i32, v: i32, a: i32) -> u32
+    ensures answer { λ r. ⌜ r ≡ correctionOf (now (sheet .entry)) minute (figures y0 h v a) ⌝ }
+    ensures memory { λ _. ⌜ now (sheet .exit) ≡ correctedOf (now (sheet .entry)) minute (figures y0 h v a) ⌝ }
+{
+    let number = contents::contents(sheet).number;
+    if number != 0 {
+        return number;
+    }
+    let p = contents::place_of(sheet, contents::LATITUDE);
+    let n = p.rows;
+    let w = n * contents::width_of(contents::LATITUDE);
+    let start = 4 * p.start;
+    let end = start + 4 * w;
+    correct_body(&mut sheet[start..end], n, minute, Figures { y0, h, v, a })
+}

@@ -1,0 +1,1 @@
+-- Laws of which points a correction may touch. Other crates cite them.

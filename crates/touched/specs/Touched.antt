@@ -1,0 +1,72 @@
+-- "Which of my four thousand points do I redo?" "No point outside the two intervals beside that row changes": whether a correction of the minute's latitude row may change a
+-- point's answer. s is the sheet, r the row of the minute, counted from 0. North and west are a latitude and a west longitude in 0.001″; x and y are in 0.01 ft.
+use mathlib.Core.Bool.{Bool, true, false, _&&_}
+use mathlib.Core.List.{List}
+use Prim.Native.Nat.{ℕ, _+_, _-_}
+use lib.Dec.{ltb}
+use lib.IntN.{ℤ, pos, natAbs, _-ℤ_, _*ℤ_}
+use lib.Signed.{ltZ}
+use Rattle.words.specs.Ladder.{need, whereBelow}
+use Rattle.contents.specs.Layout.{latitude, stepOf}
+use Rattle.contents.specs.Entries.{rowsOf, bodyOf}
+use Rattle.tables.specs.Figures.{y0Of}
+use Rattle.extent.specs.Extent.{latitudeKnown, longitudeKnown, xPrime, eastingKnown, northingKnown}
+use Rattle.convert.specs.Answers.{afterCheck}
+use Rattle.convert.specs.Inverse.{reducedNorthing}
+use Rattle.correct.specs.Correction.{namedRow, hasRow}
+use Rattle.touched.specs.declared.Touch.{Touch}
+
+-- The answer: a number, and whether the point's answer may change. A refusal says no.
+abbrev pub touch : ℕ → Bool → Touch
+touch number touched = record { number = number; touched = touched }
+
+abbrev pub noTouch : ℕ → Touch
+noTouch number = touch number false
+
+-- The sheet has a latitude row with the minute, and which it is: as a correction finds it.
+abbrev pub hasMinute : List ℕ → ℤ → Bool
+hasMinute s minute = hasRow (bodyOf s latitude) (rowsOf s latitude) minute
+
+abbrev pub rowNamed : List ℕ → ℤ → ℕ
+rowNamed s minute = namedRow (bodyOf s latitude) minute
+
+-- ---- a geographic point
+-- The latitude lies less than a minute from the row's: in one of the two intervals beside it, and on neither of the rows next to it.
+unfoldable pub nearRow : ℤ → ℤ → Bool
+nearRow minute north = ltb (natAbs (north -ℤ minute *ℤ pos (stepOf latitude))) (stepOf latitude)
+
+-- What 10 or 11 refuses stays refused.
+unfoldable pub forwardTouched : List ℕ → ℤ → ℤ → ℤ → Bool
+forwardTouched s minute north west =
+    need (latitudeKnown s north) false
+    (need (longitudeKnown s west) false
+    (nearRow minute north))
+
+-- ---- a plane point, judged by its reduced northing
+-- It lies above y0 of the row before, or there is none.
+unfoldable pub abovePrior : List ℕ → ℕ → ℤ → Bool
+abovePrior s r reduced = whereBelow 0 r (ltZ (y0Of s (r - 1)) reduced) true
+
+-- It lies below y0 of the next row, or there is none.
+unfoldable pub belowNext : List ℕ → ℕ → ℤ → Bool
+belowNext s r reduced = whereBelow (r + 1) (rowsOf s latitude) (ltZ reduced (y0Of s (r + 1))) true
+
+-- What 12 or 13 refuses stays refused. What 14 refuses may not: a correction of the first row moves the first y0, and one of the last row the last.
+unfoldable pub inverseTouched : List ℕ → ℕ → ℤ → ℤ → Bool
+inverseTouched s r x y =
+    need (eastingKnown s (xPrime s x)) false
+    (need (northingKnown s y) false
+    (abovePrior s r (reducedNorthing s (natAbs (xPrime s x)) y) && belowNext s r (reducedNorthing s (natAbs (xPrime s x)) y)))
+
+-- ---- "Each conversion gives the check's number first, then its own": so here, then 16, "no row with the correction's minute"
+unfoldable pub geographicTouched : List ℕ → ℤ → ℤ → ℤ → Touch
+geographicTouched s minute north west =
+    afterCheck (λ t. t .number) noTouch s
+    (need (hasMinute s minute) (noTouch 16)
+    (touch 0 (forwardTouched s minute north west)))
+
+unfoldable pub planeTouched : List ℕ → ℤ → ℤ → ℤ → Touch
+planeTouched s minute x y =
+    afterCheck (λ t. t .number) noTouch s
+    (need (hasMinute s minute) (noTouch 16)
+    (touch 0 (inverseTouched s (rowNamed s minute) x y)))

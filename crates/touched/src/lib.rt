@@ -1,0 +1,170 @@
+// Which points a correction of one latitude row may touch. Each question has two forms with one definition: over any bytes, which are checked first, and over a sheet known to
+// pass, with its places in hand.
+use contents::Place;
+use contents::Places;
+ghost use mathlib.Core.Path.{_≡_};
+ghost use mathlib.Core.Bool.{true};
+ghost use Prim.Native.Nat.{_<_, _^_};
+ghost use lib.IntN.{natAbs};
+ghost use Rattle.contents.specs.Layout.{latitude};
+ghost use Rattle.contents.specs.Entries.{rowsOf, placeOf, placesOf};
+ghost use Rattle.bodies.specs.Check.{checkOf};
+ghost use Rattle.touched.specs.Touched.{hasMinute, rowNamed, nearRow, forwardTouched, abovePrior, belowNext, inverseTouched, geographicTouched, planeTouched};
+
+// Whether a correction may change a point's answer. A refusal has its number, and no.
+pub struct Touch {
+    pub number: u32,
+    pub touched: bool,
+}
+
+// Whether the sheet has a latitude row with the minute. `place` is the latitude body's.
+fn has_minute(s: &[u8], place: Place, minute: i32) -> bool
+    requires { ⌜ (checkOf (now s) .number ≡ 0) × (place ≡ placeOf (now s) latitude) ⌝ }
+    ensures { λ r. ⌜ r ≡ hasMinute (now (s .entry)) minute ⌝ }
+{
+    let n = place.rows;
+    let w = contents::width_of(contents::LATITUDE);
+    let a = 4 * place.start;
+    let z = a + 4 * (n * w);
+    correct::has_row(&s[a..z], n, minute)
+}
+
+// The latitude row with the minute, which the sheet has.
+fn row_named(s: &[u8], place: Place, minute: i32) -> usize
+    requires { ⌜ (checkOf (now s) .number ≡ 0) × (place ≡ placeOf (now s) latitude) × (hasMinute (now s) minute ≡ true) ⌝ }
+    ensures { λ r. ⌜ (r ≡ rowNamed (now (s .entry)) minute) × (r < rowsOf (now (s .entry)) latitude) ⌝ }
+{
+    let n = place.rows;
+    let w = contents::width_of(contents::LATITUDE);
+    let a = 4 * place.start;
+    let z = a + 4 * (n * w);
+    correct::named_row(&s[a..z], n, minute)
+}
+
+// Whether the latitude lies less than a minute from the row's.
+fn near_row(minute: i32, latitude: i32) -> bool
+    ensures { λ r. ⌜ r ≡ nearRow minute latitude ⌝ }
+{
+    figures::size((latitude as i64) - (minute as i64) * 60_000) < 60_000
+}
+
+// Whether a correction of the minute's row may change the answer to a geographic point.
+fn may_move_plane(s: &[u8], p: Places, minute: i32, latitude: i32, longitude: i32) -> bool
+    requires { ⌜ (checkOf (now s) .number ≡ 0) × (p ≡ placesOf (now s)) ⌝ }
+    ensures { λ r. ⌜ r ≡ forwardTouched (now (s .entry)) minute latitude longitude ⌝ }
+{
+    if !extent::latitude_known(s, p, latitude) {
+        return false;
+    }
+    if !extent::longitude_known(s, p, longitude) {
+        return false;
+    }
+    near_row(minute, latitude)
+}
+
+// Whether the reduced northing lies above y0 of the row before r, or there is none.
+fn above_prior(s: &[u8], p: Places, r: usize, reduced: i64) -> bool
+    requires { ⌜ (checkOf (now s) .number ≡ 0) × (p ≡ placesOf (now s)) × (r < rowsOf (now s) latitude) ⌝ }
+    ensures { λ t. ⌜ t ≡ abovePrior (now (s .entry)) r reduced ⌝ }
+{
+    if 0 < r {
+        return tables::y0_of(s, p, r - 1) < reduced;
+    }
+    true
+}
+
+// Whether the reduced northing lies below y0 of the row after r, or there is none.
+fn below_next(s: &[u8], p: Places, r: usize, reduced: i64) -> bool
+    requires { ⌜ (checkOf (now s) .number ≡ 0) × (p ≡ placesOf (now s)) × (r < rowsOf (now s) latitude) ⌝ }
+    ensures { λ t. ⌜ t ≡ belowNext (now (s .entry)) r reduced ⌝ }
+{
+    if r + 1 < p.latitude.rows {
+        return reduced < tables::y0_of(s, p, r + 1);
+    }
+    true
+}
+
+// Whether a correction of row r may change the answer to a plane point.
+fn may_move_earth(s: &[u8], p: Places, r: usize, x: i32, y: i32) -> bool
+    requires { ⌜ (checkOf (now s) .number ≡ 0) × (p ≡ placesOf (now s)) × (r < rowsOf (now s) latitude) ⌝ }
+    ensures { λ t. ⌜ t ≡ inverseTouched (now (s .entry)) r x y ⌝ }
+{
+    let xp = extent::x_prime(s, p, x);
+    if !extent::easting_known(s, p, xp) {
+        return false;
+    }
+    if !extent::northing_known(s, p, y) {
+        return false;
+    }
+    let reduced = convert::reduced_northing(s, p, figures::size(xp), y);
+    above_prior(s, p, r, reduced) & below_next(s, p, r, reduced)
+}
+
+// Whether a correction of the minute's row may change the answer to a geographic point, on a sheet known to pass, with its places.
+pub fn forward_touched(s: &[u8], p: Places, minute: i32, latitude: i32, longitude: i32) -> Touch
+    requires { ⌜ (checkOf (now s) .number ≡ 0) × (p ≡ placesOf (now s)) ⌝ }
+    ensures { λ r. ⌜ r ≡ geographicTouched (now (s .entry)) minute latitude longitude ⌝ }
+{
+    if !has_minute(s, p.latitude, minute) {
+        return Touch {
+            number: 16,
+            touched: false,
+        };
+    }
+    Touch {
+        number: 0,
+        touched: may_move_plane(s, p, minute, latitude, longitude),
+    }
+}
+
+// Whether a correction of the minute's row may change what `convert::geographic_to_plane` answers: the check's number, 16, or yes or no.
+pub fn geographic_touched(sheet: &[u8], minute: i32, latitude: i32, longitude: i32) -> Touch
+    ensures { λ r. ⌜ r ≡ geographicTouched (now (sheet .entry)) minute latitude longitude ⌝ }
+{
+    let number = bodies::check(sheet).number;
+    if number != 0 {
+        return Touch {
+            number,
+            touched: false,
+        };
+    }
+    forward_touched(
+        sheet,
+        contents::places_of(sheet),
+        minute,
+        latitude,
+        longitude,
+    )
+}
+
+// Whether a correction of the minute's row may change the answer to a plane point, on a sheet known to pass, with its places.
+pub fn inverse_touched(s: &[u8], p: Places, minute: i32, x: i32, y: i32) -> Touch
+    requires { ⌜ (checkOf (now s) .number ≡ 0) × (p ≡ placesOf (now s)) ⌝ }
+    ensures { λ r. ⌜ r ≡ planeTouched (now (s .entry)) minute x y ⌝ }
+{
+    if !has_minute(s, p.latitude, minute) {
+        return Touch {
+            number: 16,
+            touched: false,
+        };
+    }
+    let r = row_named(s, p.latitude, minute);
+    Touch {
+        number: 0,
+        touched: may_move_earth(s, p, r, x, y),
+    }
+}
+
+// Whether a correction of the minute's row may change what `convert::plane_to_geographic` answers: the check's number, 16, or yes or no.
+pub fn plane_touched(sheet: &[u8], minute: i32, x: i32, y: i32) -> Touch
+    ensures { λ r. ⌜ r ≡ planeTouched (now (sheet .entry)) minute x y ⌝ }
+{
+    let number = bodies::check(sheet).number;
+    if number != 0 {
+        return Touch {
+            number,
+            touched: false,
+        };
+    }
+    inverse_touched(sheet, contents::places_of(sheet), minute, x, y)
+}
