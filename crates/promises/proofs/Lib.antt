@@ -4,3 +4,11 @@ pub mod NearestIsNearest
 pub mod OneAnswer
 pub mod AnswersFit
 pub mod SizesAndSigns
+pub mod WithRow
+pub mod NewRows
+pub mod WholeCheck
+pub mod Beside
+pub mod Stands
+pub mod SameAnswers
+pub mod Minutes
+pub mod Corrections

@@ -2,6 +2,7 @@
 -- learns from the operation's own contract, so a contract that said less would not do. Assumes nothing.
 use mathlib.Core.Path.{_≡_, sym, _∙_}
 use contract.Lifetimes.{Lfts}
+use denote.Ref.{now}
 use denote.Triple.Clauses.{AtExit}
 use borrow.Fn.Kinds.{Dens, resT, endedOf}
 use Rattle.bodies.proofs.check.Kinds as check-kinds
@@ -12,6 +13,12 @@ use Rattle.convert.proofs.plane_to_geographic.Kinds as inverse-kinds
 use Rattle.convert.proofs.plane_to_geographic.Reads as inverse-reads
 use Rattle.convert.proofs.convergence_and_scale.Kinds as grid-kinds
 use Rattle.convert.proofs.convergence_and_scale.Reads as grid-reads
+use Rattle.touched.proofs.geographic_touched.Kinds as geographic-kinds
+use Rattle.touched.proofs.geographic_touched.Reads as geographic-reads
+use Rattle.touched.proofs.plane_touched.Kinds as plane-kinds
+use Rattle.touched.proofs.plane_touched.Reads as plane-reads
+use Rattle.correct.proofs.correct.Kinds as correct-kinds
+use Rattle.correct.proofs.correct.Reads as correct-reads
 
 -- `bodies::check`
 pub one-check : (κs : Lfts 1) (sheet : Dens κs check-kinds.ps) (r t : resT check-kinds.r κs .Denot) (x y : AtExit (endedOf 1 check-kinds.ps check-kinds.r) κs)
@@ -32,3 +39,18 @@ one-geographic κs given r t x y p q = p ∙ sym q
 pub one-grid : (κs : Lfts 1) (given : Dens κs grid-kinds.ps) (r t : resT grid-kinds.r κs .Denot) (x y : AtExit (endedOf 1 grid-kinds.ps grid-kinds.r) κs)
     → grid-reads.Learnt κs given r x → grid-reads.Learnt κs given t y → r ≡ t
 one-grid κs given r t x y p q = p ∙ sym q
+
+-- `touched::geographic_touched`
+pub one-geographic-touch : (κs : Lfts 1) (given : Dens κs geographic-kinds.ps) (r t : resT geographic-kinds.r κs .Denot) (x y : AtExit (endedOf 1 geographic-kinds.ps geographic-kinds.r) κs)
+    → geographic-reads.Learnt κs given r x → geographic-reads.Learnt κs given t y → r ≡ t
+one-geographic-touch κs given r t x y p q = p ∙ sym q
+
+-- `touched::plane_touched`
+pub one-plane-touch : (κs : Lfts 1) (given : Dens κs plane-kinds.ps) (r t : resT plane-kinds.r κs .Denot) (x y : AtExit (endedOf 1 plane-kinds.ps plane-kinds.r) κs)
+    → plane-reads.Learnt κs given r x → plane-reads.Learnt κs given t y → r ≡ t
+one-plane-touch κs given r t x y p q = p ∙ sym q
+
+-- `correct::correct`: one number, and one content of the lent sheet
+pub one-correction : (κs : Lfts 1) (given : Dens κs correct-kinds.ps) (r t : resT correct-kinds.r κs .Denot) (x y : AtExit (endedOf 1 correct-kinds.ps correct-kinds.r) κs)
+    → correct-reads.Learnt κs given r x → correct-reads.Learnt κs given t y → (r ≡ t) × (now (x .0) ≡ now (y .0))
+one-correction κs given r t x y p q = (p .0 ∙ sym (q .0), p .1 ∙ sym (q .1))

@@ -4,3 +4,4 @@ pub mod CaseSheet
 pub mod Cases
 pub mod Meaning
 pub mod Conversions
+pub mod Corrections

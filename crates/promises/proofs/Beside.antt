@@ -1,0 +1,145 @@
+-- Two sheets that differ in the figures of latitude row r alone: every figure that a conversion reads elsewhere is the same in both. Assumes nothing.
+use mathlib.Core.Path.{_≡_, ap, _∙_}
+use mathlib.Core.Bool.{_&&_}
+use mathlib.Core.List.{List}
+use mathlib.Core.Logic.{_⊎_, inl, inr}
+use Prim.Native.Nat.{ℕ, _+_, _-_, _*_, _<_, _≤_}
+use native.Mathlib.Omega.{arith}
+use lib.Dec.{lit<, lit≤}
+use lib.IntN.{ℤ, pos, natAbs, _-ℤ_, _*ℤ_}
+use Rattle.contents.specs.Layout.{lastKind, zone, latitude, longitude, northing, easting, scale, widthOf, stepOf}
+use Rattle.contents.specs.Entries.{rowsOf, bodyOf}
+use Rattle.reading.specs.Tables.{column, valueAt, withinRows}
+use Rattle.reading.proofs.Local.{value-below, value-above}
+use Rattle.tables.specs.Figures.{figureOf, figureAt, centralMeridian, falseEasting, firstLatitude, y0Of, y0At, hAt, vAt, aAt, bAt, cAt, pAt, mAt, dAt, kAt}
+use Rattle.extent.specs.Extent.{fromFirst, latitudeKnown, lOf, sizeKnown, longitudeKnown, xPrime, eastingKnown, scaleKnown, northingKnown}
+
+pub record Beside (s t : List ℕ) (r : ℕ) : Type 0 where
+  pub rows : (kind : ℕ) → 1 ≤ kind → kind ≤ lastKind → rowsOf t kind ≡ rowsOf s kind
+  pub bodies : (kind : ℕ) → 1 ≤ kind → kind ≤ lastKind → (kind ≡ latitude → ⊥) → bodyOf t kind ≡ bodyOf s kind
+  pub minute : figureOf t latitude 0 0 ≡ figureOf s latitude 0 0
+  pub y0 : (i : ℕ) → (i ≡ r → ⊥) → figureOf t latitude 1 i ≡ figureOf s latitude 1 i
+  pub h : (i : ℕ) → (i ≡ r → ⊥) → figureOf t latitude 3 i ≡ figureOf s latitude 3 i
+  pub v : (i : ℕ) → (i ≡ r → ⊥) → figureOf t latitude 5 i ≡ figureOf s latitude 5 i
+  pub a : (i : ℕ) → (i ≡ r → ⊥) → figureOf t latitude 7 i ≡ figureOf s latitude 7 i
+
+-- A latitude's distance d from row 0 is at or below the row before r, or at or above the row after it.
+abbrev pub Outside : ℕ → ℕ → Type 0
+Outside r d = ((0 < r) × (d ≤ (r - 1) * stepOf latitude)) ⊎ ((r + 1) * stepOf latitude ≤ d)
+
+module _ (s t : List ℕ) (r : ℕ) (same : Beside s t r) where
+  -- ---- the figures of a body that stays
+  module _ (kind : ℕ) (l : 1 ≤ kind) (h : kind ≤ lastKind) (other : kind ≡ latitude → ⊥) where
+    figure-same : (number i : ℕ) → figureOf t kind number i ≡ figureOf s kind number i
+    figure-same number i = ap (λ (b : List ℕ). column b (widthOf kind) number i) (same .bodies kind l h other)
+
+    read-same : (number offset : ℕ) → figureAt t kind number offset ≡ figureAt s kind number offset
+    read-same number offset = ap (λ (b : List ℕ). valueAt (column b (widthOf kind) number) (stepOf kind) offset) (same .bodies kind l h other)
+
+    within-same : (x : ℤ) → withinRows (rowsOf t kind) (stepOf kind) x ≡ withinRows (rowsOf s kind) (stepOf kind) x
+    within-same x = ap (λ (n : ℕ). withinRows n (stepOf kind) x) (same .rows kind l h)
+
+  pub latitude-rows : rowsOf t latitude ≡ rowsOf s latitude
+  latitude-rows = same .rows latitude (lit≤ tt) (lit≤ tt)
+
+  pub central-same : centralMeridian t ≡ centralMeridian s
+  unfolding centralMeridian
+  central-same = figure-same zone (lit≤ tt) (lit≤ tt) (λ e. omega arith) 0 0
+
+  pub false-same : falseEasting t ≡ falseEasting s
+  unfolding falseEasting
+  false-same = figure-same zone (lit≤ tt) (lit≤ tt) (λ e. omega arith) 1 0
+
+  pub b-same : (size : ℕ) → bAt t size ≡ bAt s size
+  unfolding bAt
+  b-same size = read-same longitude (lit≤ tt) (lit≤ tt) (λ e. omega arith) 0 size
+
+  pub c-same : (size : ℕ) → cAt t size ≡ cAt s size
+  unfolding cAt
+  c-same size = read-same longitude (lit≤ tt) (lit≤ tt) (λ e. omega arith) 1 size
+
+  pub p-same : (y : ℕ) → pAt t y ≡ pAt s y
+  unfolding pAt
+  p-same y = ap natAbs (read-same northing (lit≤ tt) (lit≤ tt) (λ e. omega arith) 0 y)
+
+  pub m-same : (y : ℕ) → mAt t y ≡ mAt s y
+  unfolding mAt
+  m-same y = ap natAbs (read-same northing (lit≤ tt) (lit≤ tt) (λ e. omega arith) 1 y)
+
+  pub d-same : (size : ℕ) → dAt t size ≡ dAt s size
+  unfolding dAt
+  d-same size = read-same easting (lit≤ tt) (lit≤ tt) (λ e. omega arith) 0 size
+
+  pub k-same : (size : ℕ) → kAt t size ≡ kAt s size
+  unfolding kAt
+  k-same size = read-same scale (lit≤ tt) (lit≤ tt) (λ e. omega arith) 0 size
+
+  -- ---- where a point stands
+  pub first-same : firstLatitude t ≡ firstLatitude s
+  unfolding firstLatitude
+  first-same = ap (λ (m : ℤ). m *ℤ pos (stepOf latitude)) (same .minute)
+
+  pub from-first-same : (north : ℤ) → fromFirst t north ≡ fromFirst s north
+  unfolding fromFirst
+  from-first-same north = ap (λ (m : ℤ). north -ℤ m) first-same
+
+  pub latitude-same : (north : ℤ) → latitudeKnown t north ≡ latitudeKnown s north
+  unfolding latitudeKnown
+  latitude-same north = rw (latitude-rows, from-first-same north)
+
+  pub l-same : (west : ℤ) → lOf t west ≡ lOf s west
+  unfolding lOf
+  l-same west = ap (λ (m : ℤ). m -ℤ west) central-same
+
+  pub size-same : (size : ℤ) → sizeKnown t size ≡ sizeKnown s size
+  unfolding sizeKnown
+  size-same size = within-same longitude (lit≤ tt) (lit≤ tt) (λ e. omega arith) size
+
+  pub longitude-same : (west : ℤ) → longitudeKnown t west ≡ longitudeKnown s west
+  unfolding longitudeKnown
+  longitude-same west = rw (l-same west, size-same (pos (natAbs (lOf s west))))
+
+  pub x-prime-same : (x : ℤ) → xPrime t x ≡ xPrime s x
+  unfolding xPrime
+  x-prime-same x = ap (λ (c : ℤ). x -ℤ c) false-same
+
+  pub easting-same : (xp : ℤ) → eastingKnown t xp ≡ eastingKnown s xp
+  unfolding eastingKnown
+  easting-same xp = within-same easting (lit≤ tt) (lit≤ tt) (λ e. omega arith) (pos (natAbs xp))
+
+  pub scale-same : (xp : ℤ) → scaleKnown t xp ≡ scaleKnown s xp
+  unfolding scaleKnown
+  scale-same xp = within-same scale (lit≤ tt) (lit≤ tt) (λ e. omega arith) (pos (natAbs xp))
+
+  pub northing-same : (y : ℤ) → northingKnown t y ≡ northingKnown s y
+  unfolding northingKnown
+  northing-same y = within-same northing (lit≤ tt) (lit≤ tt) (λ e. omega arith) y
+
+  -- ---- the latitude figures, outside the intervals beside row r
+  pub y0-row-same : (i : ℕ) → (i ≡ r → ⊥) → y0Of t i ≡ y0Of s i
+  unfolding y0Of
+  y0-row-same i h = same .y0 i h
+
+  module _ (d : ℕ) (outside : Outside r d) where
+    column-same : (f g : ℕ → ℤ) → ((i : ℕ) → (i ≡ r → ⊥) → g i ≡ f i) → valueAt g (stepOf latitude) d ≡ valueAt f (stepOf latitude) d
+    column-same f g rows = pick outside
+      where
+        pick : Outside r d → valueAt g (stepOf latitude) d ≡ valueAt f (stepOf latitude) d
+        pick (inl low) = value-below f g (stepOf latitude) r (lit< tt) rows d (low .0) (low .1)
+        pick (inr high) = value-above f g (stepOf latitude) r (lit< tt) rows d high
+
+    pub y0-same : y0At t d ≡ y0At s d
+    unfolding y0At
+    y0-same = column-same (figureOf s latitude 1) (figureOf t latitude 1) (same .y0)
+
+    pub h-same : hAt t d ≡ hAt s d
+    unfolding hAt
+    h-same = ap natAbs (column-same (figureOf s latitude 3) (figureOf t latitude 3) (same .h))
+
+    pub v-same : vAt t d ≡ vAt s d
+    unfolding vAt
+    v-same = ap natAbs (column-same (figureOf s latitude 5) (figureOf t latitude 5) (same .v))
+
+    pub a-same : aAt t d ≡ aAt s d
+    unfolding aAt
+    a-same = column-same (figureOf s latitude 7) (figureOf t latitude 7) (same .a)

@@ -1,0 +1,291 @@
+-- Demand 3 holds: `Corrects`, `Afresh`, `Local` and `Untouched`, of every sheet that passes, every minute and all figures of 32 bits. Assumes nothing.
+use mathlib.Core.Path.{_≡_, refl, sym, ap, subst, _∙_}
+use mathlib.Core.Bool.{Bool, true, false, _&&_}
+use mathlib.Core.List.{List}
+use mathlib.Core.Logic.{_⊎_, inl, inr}
+use Prim.Native.Nat.{ℕ, _+_, _-_, _*_, _^_, _<_, _≤_}
+use native.Mathlib.Nat.{add-zero}
+use native.Mathlib.Decide.{decLt}
+use native.Mathlib.Omega.{arith}
+use borrow.Author.Tests.{leb-true, ltb-false}
+use lib.Dec.{T, lit≤}
+use lib.IntN.{ℤ, pos, negsuc, natAbs, _-ℤ_, _*ℤ_}
+use lib.ListN.{length}
+use lib.Signed.{leZ, ltZ}
+use mir.Syntax.{w32}
+use mir.Val.{SFits}
+use Rattle.figures.proofs.Order.{above-of}
+use Rattle.words.specs.Words.{wordAt}
+use Rattle.words.specs.Ladder.{need, whereBelow}
+use Rattle.words.proofs.Refusals.{past, where-below, where-beyond, is, is-not}
+use Rattle.contents.specs.Layout.{latitude, lastKind, stepOf}
+use Rattle.contents.specs.Entries.{rowsOf, bodyOf}
+use Rattle.contents.specs.Contents.{verdict, numberOf, contentsOf}
+use Rattle.rules.specs.declared.Figures.{Figures}
+use Rattle.rows.specs.Rows.{figuresAt}
+use Rattle.bodies.specs.Check.{checkOf}
+use Rattle.tables.specs.Figures.{figureOf, y0Of}
+use Rattle.tables.proofs.Parts.{contents-none}
+use Rattle.tables.proofs.Ranges.{latitude-some}
+use Rattle.extent.specs.Extent.{latitudeKnown, longitudeKnown, xPrime, eastingKnown, northingKnown}
+use Rattle.convert.specs.Forward.{forwardOf, geographicToPlane}
+use Rattle.convert.specs.Inverse.{reducedNorthing, inverseOf, planeToGeographic}
+use Rattle.convert.specs.Grid.{gridOf, convergenceAndScale}
+use Rattle.convert.proofs.Checked.{forward-passes, inverse-passes, grid-passes, after-pass}
+use Rattle.correct.specs.Correction.{fromFirstMinute, hasRow, judgedBy, correctionOf, correctedOf}
+use Rattle.correct.proofs.Place.{row-there}
+use Rattle.correct.proofs.RowWords.{FiguresFit, figures-fit}
+use Rattle.correct.proofs.Rewritten.{minutes-stay, figures-stay, figures-new}
+use Rattle.correct.proofs.Judged.{Kept, zero-keeps, kept-zero, number-is}
+use Rattle.touched.specs.Touched.{touch, noTouch, hasMinute, rowNamed, nearRow, forwardTouched, abovePrior, belowNext, inverseTouched, geographicTouched, planeTouched}
+use Rattle.promises.specs.Corrections.{Passes, Word, Words, putIn, FarLatitude, FarNorthing, FarPlane, Corrects, Afresh, Local, Untouched}
+use Rattle.promises.proofs.WithRow.{body-long, rows-stay, body-stays, latitude-body}
+use Rattle.promises.proofs.WholeCheck.{passes-with, must-range, must-before, must-after}
+use Rattle.promises.proofs.Beside.{Beside, latitude-rows, latitude-same, longitude-same, x-prime-same, easting-same, northing-same, y0-row-same}
+use Rattle.promises.proofs.SameAnswers.{forward-same, inverse-same, grid-same, reduced-same}
+use Rattle.promises.proofs.Minutes.{far-outside}
+
+-- ---- figures of 32 bits are words
+word-fits : (z : ℤ) → Word z → SFits w32 z
+word-fits (pos n) h = record { sfits = omega (arith, leb-true n 2_147_483_647 (h .1)) }
+word-fits (negsuc n) h = record { sfits = omega (arith, leb-true n 2_147_483_647 (h .0)) }
+
+words-fit : (f : Figures) → Words f → FiguresFit f
+words-fit f h = record { y0 = word-fits (f .y0) (h .0); h = word-fits (f .h) (h .1); v = word-fits (f .v) (h .2); a = word-fits (f .a) (h .3) }
+
+-- what is not below is not less
+not-less : (a c : ℤ) → ltZ a c ≡ false → leZ c a ≡ true
+not-less a c h = pick (leZ c a) refl
+  where
+    pick : (p : Bool) → leZ c a ≡ p → leZ c a ≡ true
+    pick true e = e
+    pick false e = absurd (subst T (sym (above-of c a e) ∙ h) tt)
+
+module _ (s : List ℕ) (passes : Passes s) (minute : ℤ) (f : Figures) where
+  abbrev b : List ℕ
+  b = bodyOf s latitude
+
+  abbrev n : ℕ
+  n = rowsOf s latitude
+
+  abbrev r : ℕ
+  r = rowNamed s minute
+
+  ok : checkOf s .number ≡ 0
+  ok = ap numberOf passes
+
+  z : contentsOf s .number ≡ 0
+  z = contents-none s ok
+
+  -- ---- the correction itself
+  keeps : correctionOf s minute f ≡ 0 → Kept b n minute f
+  keeps e = zero-keeps b n minute f (sym (number-is s minute f z) ∙ e)
+
+  there : hasMinute s minute ≡ true → r < n
+  there has = row-there b n minute has (latitude-some s ok)
+
+  writes : correctionOf s minute f ≡ 0 → correctedOf s minute f ≡ putIn s minute f
+  unfolding correctedOf
+  writes e = sym (is (correctionOf s minute f) 0 (putIn s minute f) s (putIn s minute f) e refl)
+
+  stays : (correctionOf s minute f ≡ 0 → ⊥) → correctedOf s minute f ≡ s
+  unfolding correctedOf
+  stays h = sym (is-not (correctionOf s minute f) 0 (putIn s minute f) s s h refl)
+
+  only-then : correctionOf s minute f ≡ 0 → Passes (putIn s minute f)
+  only-then e = let k = keeps e in passes-with s ok r f (there (k .row)) (k .range) (k .before) (k .after)
+
+  no-row : hasMinute s minute ≡ false → correctionOf s minute f ≡ 16
+  unfolding judgedBy need
+  no-row h = number-is s minute f z ∙ rw h
+
+  always-then : Words f → hasMinute s minute ≡ true → Passes (putIn s minute f) → correctionOf s minute f ≡ 0
+  always-then words has p =
+      let q : checkOf (putIn s minute f) .number ≡ 0 = ap numberOf p in
+      number-is s minute f z
+      ∙ kept-zero b n minute f (record {
+        row = has;
+        range = must-range s ok r f (there has) (words-fit f words) q;
+        before = must-before s ok r f (there has) (words-fit f words) q;
+        after = must-after s ok r f (there has) (words-fit f words) q;
+      })
+
+  pub corrects : Words f → Corrects s minute f
+  corrects words = record { only-then = only-then; always-then = always-then words; no-row = no-row; writes = writes; stays = stays }
+
+  -- ---- after a correction that was accepted
+  module _ (accepted : correctionOf s minute f ≡ 0) where
+    abbrev t : List ℕ
+    t = putIn s minute f
+
+    ok′ : checkOf t .number ≡ 0
+    ok′ = ap numberOf (only-then accepted)
+
+    has : hasMinute s minute ≡ true
+    has = keeps accepted .row
+
+    old : (i : ℕ) → (i ≡ r → ⊥) → figuresAt (bodyOf t latitude) i ≡ figuresAt b i
+    old i h = rw (latitude-body s z r f) (figures-stay b n r f i h)
+
+    new : figuresAt (bodyOf t latitude) r ≡ f
+    new = rw (latitude-body s z r f) (figures-new b n r f (omega (arith, body-long s z r f)) (there has) (figures-fit f (keeps accepted .range)))
+
+    -- t is s but for row r's figures
+    beside : Beside s t r
+    unfolding figuresAt
+    beside =
+        record {
+          rows = λ kind l h. rows-stay s z r f kind l h;
+          bodies = λ kind l h other. body-stays s z r f kind l h other;
+          minute = rw (latitude-body s z r f) (minutes-stay b n r f 0);
+          y0 = λ i h. ap (λ (g : Figures). g .y0) (old i h);
+          h = λ i h. ap (λ (g : Figures). g .h) (old i h);
+          v = λ i h. ap (λ (g : Figures). g .v) (old i h);
+          a = λ i h. ap (λ (g : Figures). g .a) (old i h);
+        }
+
+    -- a conversion on a sheet that passes is what comes after the check
+    plane-steps : (u : List ℕ) → checkOf u .number ≡ 0 → (north west : ℤ) → geographicToPlane u north west ≡ forwardOf u north west
+    plane-steps u q north west = sym (forward-passes u north west (forwardOf u north west) q refl)
+
+    earth-steps : (u : List ℕ) → checkOf u .number ≡ 0 → (x y : ℤ) → planeToGeographic u x y ≡ inverseOf u x y
+    earth-steps u q x y = sym (inverse-passes u x y (inverseOf u x y) q refl)
+
+    grid-steps : (u : List ℕ) → checkOf u .number ≡ 0 → (x y : ℤ) → convergenceAndScale u x y ≡ gridOf u x y
+    grid-steps u q x y = sym (grid-passes u x y (gridOf u x y) q refl)
+
+    pub afresh : Afresh s minute f
+    afresh =
+        record {
+          new-figures = ap (λ (u : List ℕ). figuresAt (bodyOf u latitude) r) (writes accepted) ∙ new;
+          old-figures = λ i h. ap (λ (u : List ℕ). figuresAt (bodyOf u latitude) i) (writes accepted) ∙ old i h;
+          forward = λ north west. ap (λ (u : List ℕ). geographicToPlane u north west) (writes accepted) ∙ plane-steps t ok′ north west;
+          inverse = λ x y. ap (λ (u : List ℕ). planeToGeographic u x y) (writes accepted) ∙ earth-steps t ok′ x y;
+        }
+
+    -- ---- the answers that stay
+    plane-stays : (north west : ℤ) → (latitudeKnown s north ≡ true → longitudeKnown s west ≡ true → FarLatitude minute north)
+        → geographicToPlane (correctedOf s minute f) north west ≡ geographicToPlane s north west
+    plane-stays north west far =
+        afresh .forward north west
+        ∙ forward-same s t r beside north west (λ k l. far-outside s ok minute has north k (far k l))
+        ∙ sym (plane-steps s ok north west)
+
+    earth-stays : (x y : ℤ) → FarPlane s minute x y → planeToGeographic (correctedOf s minute f) x y ≡ planeToGeographic s x y
+    earth-stays x y far = afresh .inverse x y ∙ inverse-same s t r beside (there has) ok ok′ x y far ∙ sym (earth-steps s ok x y)
+
+    pub locally : Local s minute f
+    locally =
+        record {
+          forward = λ north west far. plane-stays north west (λ k l. far);
+          inverse = earth-stays;
+          grid = λ x y. ap (λ (u : List ℕ). convergenceAndScale u x y) (writes accepted) ∙ grid-steps t ok′ x y ∙ grid-same s t r beside x y ∙ sym (grid-steps s ok x y);
+        }
+
+    -- ---- what `touched` says
+    module _ (u : List ℕ) (q : checkOf u .number ≡ 0) (h : hasMinute u minute ≡ true) where
+      geographic-says : (north west : ℤ) → geographicTouched u minute north west ≡ touch 0 (forwardTouched u minute north west)
+      unfolding geographicTouched
+      geographic-says north west =
+          after-pass (λ a. a .number) noTouch (λ m. refl) u (need (hasMinute u minute) (noTouch 16) (touch 0 (forwardTouched u minute north west))) q
+          ∙ past (noTouch 16) (touch 0 (forwardTouched u minute north west)) h
+
+      plane-says : (x y : ℤ) → planeTouched u minute x y ≡ touch 0 (inverseTouched u (rowNamed u minute) x y)
+      unfolding planeTouched
+      plane-says x y =
+          after-pass (λ a. a .number) noTouch (λ m. refl) u (need (hasMinute u minute) (noTouch 16) (touch 0 (inverseTouched u (rowNamed u minute) x y))) q
+          ∙ past (noTouch 16) (touch 0 (inverseTouched u (rowNamed u minute) x y)) h
+
+    -- no, of a geographic point that the conversion answers: it is far
+    says-far : (north west : ℤ) → forwardTouched s minute north west ≡ false → latitudeKnown s north ≡ true → longitudeKnown s west ≡ true → FarLatitude minute north
+    unfolding forwardTouched nearRow
+    says-far north west e k l =
+        ltb-false (natAbs (north -ℤ minute *ℤ pos (stepOf latitude))) (stepOf latitude)
+        (sym (past false (nearRow minute north) l) ∙ sym (past false (need (longitudeKnown s west) false (nearRow minute north)) k) ∙ e)
+
+    -- and of a plane point
+    prior-far : (reduced : ℤ) → abovePrior s r reduced ≡ false → FarNorthing s r reduced
+    unfolding abovePrior
+    prior-far reduced e = pick (decLt 0 r)
+      where
+        pick : Dec (0 < r) → FarNorthing s r reduced
+        pick (yes h) = inl (h, not-less (y0Of s (r - 1)) reduced (sym (where-below 0 r (ltZ (y0Of s (r - 1)) reduced) true h) ∙ e))
+        pick (no h) = absurd (subst T (sym (where-beyond 0 r (ltZ (y0Of s (r - 1)) reduced) true (omega arith)) ∙ e) tt)
+
+    next-far : (reduced : ℤ) → belowNext s r reduced ≡ false → FarNorthing s r reduced
+    unfolding belowNext
+    next-far reduced e = pick (decLt (r + 1) n)
+      where
+        pick : Dec (r + 1 < n) → FarNorthing s r reduced
+        pick (yes h) = inr (h, not-less reduced (y0Of s (r + 1)) (sym (where-below (r + 1) n (ltZ reduced (y0Of s (r + 1))) true h) ∙ e))
+        pick (no h) = absurd (subst T (sym (where-beyond (r + 1) n (ltZ reduced (y0Of s (r + 1))) true (omega arith)) ∙ e) tt)
+
+    says-aside : (x y : ℤ) → inverseTouched s r x y ≡ false → FarPlane s minute x y
+    unfolding inverseTouched
+    says-aside x y e k l = pick (abovePrior s r reduced) refl (belowNext s r reduced) refl both-say
+      where
+        reduced : ℤ
+        reduced = reducedNorthing s (natAbs (xPrime s x)) y
+
+        both-say : (abovePrior s r reduced && belowNext s r reduced) ≡ false
+        both-say = sym (past false _ l) ∙ sym (past false _ k) ∙ e
+
+        pick : (p : Bool) → abovePrior s r reduced ≡ p → (q : Bool) → belowNext s r reduced ≡ q → (p && q) ≡ false → FarNorthing s r reduced
+        pick false h q g no-touch = prior-far reduced h
+        pick true h false g no-touch = next-far reduced g
+        pick true h true g no-touch = absurd (subst T no-touch tt)
+
+    -- ---- the new sheet says the same
+    has-new : hasMinute t minute ≡ true
+    unfolding hasRow fromFirstMinute
+    has-new =
+        rw (latitude-body s z r f, latitude-rows s t r beside, minutes-stay b n r f 0, minutes-stay b n r f (natAbs (minute -ℤ wordAt b (8 * 0)))) has
+
+    row-new : rowNamed t minute ≡ r
+    unfolding fromFirstMinute
+    row-new = rw (latitude-body s z r f, minutes-stay b n r f 0)
+
+    forward-says : (north west : ℤ) → forwardTouched t minute north west ≡ forwardTouched s minute north west
+    unfolding forwardTouched
+    forward-says north west = rw (latitude-same s t r beside north, longitude-same s t r beside west)
+
+    prior-says : (reduced : ℤ) → abovePrior t r reduced ≡ abovePrior s r reduced
+    unfolding abovePrior
+    prior-says reduced = pick (decLt 0 r)
+      where
+        pick : Dec (0 < r) → whereBelow 0 r (ltZ (y0Of t (r - 1)) reduced) true ≡ whereBelow 0 r (ltZ (y0Of s (r - 1)) reduced) true
+        pick (yes h) = rw (y0-row-same s t r beside (r - 1) (λ e. omega arith))
+        pick (no h) =
+            where-beyond 0 r (ltZ (y0Of t (r - 1)) reduced) true (omega arith) ∙ sym (where-beyond 0 r (ltZ (y0Of s (r - 1)) reduced) true (omega arith))
+
+    next-says : (reduced : ℤ) → belowNext t r reduced ≡ belowNext s r reduced
+    unfolding belowNext
+    next-says reduced = rw (latitude-rows s t r beside, y0-row-same s t r beside (r + 1) (λ e. omega arith))
+
+    inverse-says : (x y : ℤ) → inverseTouched t (rowNamed t minute) x y ≡ inverseTouched s r x y
+    unfolding inverseTouched
+    inverse-says x y =
+        let reduced = reducedNorthing s (natAbs (xPrime s x)) y in
+        rw (
+          row-new,
+          x-prime-same s t r beside x,
+          easting-same s t r beside (xPrime s x),
+          northing-same s t r beside y,
+          reduced-same s t r beside (natAbs (xPrime s x)) y,
+          prior-says reduced,
+          next-says reduced,
+        )
+
+    pub untouched : Untouched s minute f
+    untouched =
+        record {
+          forward = λ north west e. plane-stays north west (says-far north west (ap (λ a. a .touched) (sym (geographic-says s ok has north west) ∙ e)));
+          inverse = λ x y e. earth-stays x y (says-aside x y (ap (λ a. a .touched) (sym (plane-says s ok has x y) ∙ e)));
+          either-forward = λ north west.
+              ap (λ (u : List ℕ). geographicTouched u minute north west) (writes accepted)
+              ∙ geographic-says t ok′ has-new north west
+              ∙ ap (touch 0) (forward-says north west)
+              ∙ sym (geographic-says s ok has north west);
+          either-inverse = λ x y.
+              ap (λ (u : List ℕ). planeTouched u minute x y) (writes accepted) ∙ plane-says t ok′ has-new x y ∙ ap (touch 0) (inverse-says x y) ∙ sym (plane-says s ok has x y);
+        }

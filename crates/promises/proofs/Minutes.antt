@@ -1,0 +1,116 @@
+-- The minutes of a sheet that passes: each row's minute names it; and a latitude a minute or more from a row's lies outside the two intervals beside that row. Assumes nothing.
+use mathlib.Core.Path.{_≡_, refl, sym, ap, _∙_}
+use mathlib.Core.Bool.{true}
+use mathlib.Core.List.{List}
+use mathlib.Core.Logic.{_⊎_, inl, inr}
+use Prim.Native.Nat.{ℕ, zero, suc, _+_, _-_, _*_, _<_, _≤_, zero-le}
+use native.Mathlib.Nat.{add-zero}
+use native.Mathlib.Decide.{decLe}
+use native.Mathlib.Omega.{arith}
+use borrow.Author.Tests.{le-leb}
+use lib.Dec.{lit≤}
+use lib.IntN.{ℤ, pos, negℤ, natAbs, _+ℤ_, _-ℤ_, _*ℤ_, +ℤ-assoc, +ℤ-invl, +ℤ-idl, +ℤ-negℤ-cancel, -ℤ-+ℤ-cancel}
+use Rattle.figures.proofs.Sizes.{Size, pos-minus, subℕ-le, subℕ-lt}
+use Rattle.figures.proofs.Ring.{difference-times}
+use Rattle.contents.specs.Layout.{latitude, stepOf}
+use Rattle.contents.specs.Entries.{rowsOf, bodyOf}
+use Rattle.rules.specs.Limits.{inRange, sameAs}
+use Rattle.rules.proofs.Ranges.{same-self}
+use Rattle.rows.specs.Rows.{rowAt}
+use Rattle.rows.proofs.PassingFigures.{minute-in-range, minute-up}
+use Rattle.bodies.specs.Check.{checkOf}
+use Rattle.bodies.proofs.Sound.{passes-sound, latitude-rows}
+use Rattle.tables.specs.Figures.{firstLatitude}
+use Rattle.tables.proofs.Ranges.{latitude-some}
+use Rattle.extent.specs.Extent.{fromFirst, latitudeKnown}
+use Rattle.extent.proofs.Reach.{latitude-reach}
+use Rattle.correct.specs.Correction.{fromFirstMinute, namedRow, hasRow}
+use Rattle.correct.proofs.Place.{row-size}
+use Rattle.touched.specs.Touched.{hasMinute, rowNamed}
+use Rattle.promises.specs.Corrections.{FarLatitude, Named}
+use Rattle.promises.proofs.Beside.{Outside}
+
+-- ---- of numbers
+-- (a − q) + (q − p) is a − p, so (a − p) − (q − p) is a − q
+telescope : (a q p : ℤ) → (a -ℤ q) +ℤ (q -ℤ p) ≡ a -ℤ p
+telescope a q p =
+    +ℤ-assoc a (negℤ q) (q -ℤ p)
+    ∙ ap (λ (x : ℤ). a +ℤ x) (sym (+ℤ-assoc (negℤ q) q (negℤ p)) ∙ ap (λ (x : ℤ). x +ℤ negℤ p) (+ℤ-invl q) ∙ +ℤ-idl (negℤ p))
+
+less-both : (a q p : ℤ) → (a -ℤ p) -ℤ (q -ℤ p) ≡ a -ℤ q
+less-both a q p = ap (λ (x : ℤ). x -ℤ (q -ℤ p)) (sym (telescope a q p)) ∙ +ℤ-negℤ-cancel (a -ℤ q) (q -ℤ p)
+
+-- two sizes that lie k or more apart
+apart : (d e k : ℕ) → k ≤ natAbs (pos d -ℤ pos e) → (d + k ≤ e) ⊎ (e + k ≤ d)
+apart d e k h = pick (decLe e d)
+  where
+    pick : Dec (e ≤ d) → (d + k ≤ e) ⊎ (e + k ≤ d)
+    pick (yes l) =
+        let size : natAbs (pos d -ℤ pos e) ≡ d - e = ap natAbs (pos-minus d e ∙ subℕ-le l) in
+        inr (omega (arith, size))
+    pick (no l) =
+        let size : natAbs (pos d -ℤ pos e) ≡ suc (e - suc d) = ap natAbs (pos-minus d e ∙ subℕ-lt (omega arith)) in
+        inl (omega (arith, size))
+
+module _ (s : List ℕ) (ok : checkOf s .number ≡ 0) where
+  abbrev b : List ℕ
+  b = bodyOf s latitude
+
+  abbrev n : ℕ
+  n = rowsOf s latitude
+
+  -- ---- row i's minute is i more than the first
+  minute-size : (i : ℕ) → i < n → Size 0 (rowAt b i .minute) 5_400
+  minute-size i h = minute-in-range b n (latitude-rows s (passes-sound s ok)) i h
+
+  minutes-rise : (i : ℕ) → i < n → natAbs (rowAt b i .minute) ≡ natAbs (rowAt b 0 .minute) + i
+  minutes-rise zero h = omega arith
+  minutes-rise (suc i) h =
+      let next : suc i ≡ i + 1 = omega arith in
+      rw next (omega (arith, minute-up b n (latitude-rows s (passes-sound s ok)) i (omega arith), minutes-rise i (omega arith)))
+
+  from-first-is : (i : ℕ) → i < n → fromFirstMinute b (rowAt b i .minute) ≡ pos i
+  unfolding fromFirstMinute
+  from-first-is i h =
+      let this = minute-size i h in
+      let first = minute-size 0 (latitude-some s ok) in
+      ap (λ (x : ℤ). x -ℤ rowAt b 0 .minute) (this .is)
+      ∙ ap (λ (x : ℤ). pos (natAbs (rowAt b i .minute)) -ℤ x) (first .is)
+      ∙ pos-minus (natAbs (rowAt b i .minute)) (natAbs (rowAt b 0 .minute))
+      ∙ subℕ-le {a = natAbs (rowAt b i .minute)} {b = natAbs (rowAt b 0 .minute)} (omega (arith, minutes-rise i h))
+      ∙ ap pos {y = i} (omega (arith, minutes-rise i h))
+
+  pub each-named : (r : ℕ) → r < n → Named s r
+  unfolding hasRow inRange
+  each-named r h =
+      let at : namedRow b (rowAt b r .minute) ≡ r = ap natAbs (from-first-is r h) in
+      record {
+        has = rw (from-first-is r h, le-leb 0 r zero-le, le-leb r (n - 1) (omega arith)) (same-self (rowAt b r .minute));
+        row = at;
+      }
+
+  -- ---- a latitude far from the minute's row
+  module _ (minute : ℤ) (has : hasMinute s minute ≡ true) where
+    abbrev r : ℕ
+    r = rowNamed s minute
+
+    minute-is : minute -ℤ rowAt b 0 .minute ≡ pos r
+    unfolding fromFirstMinute
+    minute-is = row-size b n minute has .is
+
+    pub far-outside : (north : ℤ) → latitudeKnown s north ≡ true → FarLatitude minute north → Outside r (natAbs (fromFirst s north))
+    unfolding fromFirst firstLatitude
+    far-outside north known far =
+        let d = natAbs (fromFirst s north) in
+        let step = pos (stepOf latitude) in
+        let first = rowAt b 0 .minute in
+        let there : north -ℤ first *ℤ step ≡ pos d = latitude-reach s north known .is in
+        let same : north -ℤ minute *ℤ step ≡ pos d -ℤ pos (r * stepOf latitude) =
+        sym (less-both north (minute *ℤ step) (first *ℤ step))
+        ∙ ap (λ (x : ℤ). (north -ℤ first *ℤ step) -ℤ x) (sym (difference-times minute first step) ∙ ap (λ (x : ℤ). x *ℤ step) minute-is)
+        ∙ ap (λ (x : ℤ). x -ℤ pos (r * stepOf latitude)) there in
+        by-side d (apart d (r * stepOf latitude) (stepOf latitude) (rw same at far))
+      where
+        by-side : (d : ℕ) → (d + stepOf latitude ≤ r * stepOf latitude) ⊎ (r * stepOf latitude + stepOf latitude ≤ d) → Outside r d
+        by-side d (inl low) = inl (omega arith, omega arith)
+        by-side d (inr high) = inr (omega arith)

@@ -1,0 +1,89 @@
+-- Demand 3, over the public operations' own definitions: what is promised of a correction of the minute's latitude row to the figures f, on a sheet s that passes, and of the points
+-- that it does not touch. Latitudes and longitudes are in 0.001″, x and y in 0.01 ft.
+use mathlib.Core.Path.{_≡_}
+use mathlib.Core.Bool.{true, false}
+use mathlib.Core.List.{List}
+use mathlib.Core.Logic.{_⊎_}
+use Prim.Native.Nat.{ℕ, _+_, _-_, _<_, _≤_}
+use lib.IntN.{ℤ, pos, negℤ, natAbs, _-ℤ_, _*ℤ_}
+use lib.Signed.{leZ}
+use Rattle.contents.specs.Layout.{latitude, stepOf}
+use Rattle.contents.specs.Entries.{rowsOf, bodyOf}
+use Rattle.contents.specs.Contents.{verdict}
+use Rattle.rules.specs.declared.Figures.{Figures}
+use Rattle.rows.specs.Rows.{figuresAt, rowAt}
+use Rattle.bodies.specs.Check.{checkOf}
+use Rattle.tables.specs.Figures.{y0Of}
+use Rattle.extent.specs.Extent.{xPrime, eastingKnown, northingKnown}
+use Rattle.convert.specs.Forward.{forwardOf, geographicToPlane}
+use Rattle.convert.specs.Inverse.{reducedNorthing, inverseOf, planeToGeographic}
+use Rattle.convert.specs.Grid.{convergenceAndScale}
+use Rattle.correct.specs.Correction.{correctionOf, withRow, correctedOf}
+use Rattle.touched.specs.Touched.{touch, hasMinute, rowNamed, geographicTouched, planeTouched}
+
+-- "A pass is 0 0 0."
+abbrev pub Passes : List ℕ → Type 0
+Passes s = checkOf s ≡ verdict 0 0 0
+
+-- Figures of signed 32-bit numbers, as a correction takes them.
+abbrev pub Word : ℤ → Type 0
+Word z = (leZ (negℤ (pos 2_147_483_648)) z ≡ true) × (leZ z (pos 2_147_483_647) ≡ true)
+
+abbrev pub Words : Figures → Type 0
+Words f = Word (f .y0) × Word (f .h) × Word (f .v) × Word (f .a)
+
+-- The sheet with f in the minute's row, its minute kept, and the differences of that row and the row before reworked.
+abbrev pub putIn : List ℕ → ℤ → Figures → List ℕ
+putIn s minute f = withRow s (rowNamed s minute) f
+
+-- Outside the two intervals beside the row: the latitude lies a minute or more from the row's.
+abbrev pub FarLatitude : ℤ → ℤ → Type 0
+FarLatitude minute north = stepOf latitude ≤ natAbs (north -ℤ minute *ℤ pos (stepOf latitude))
+
+-- The same of a plane point, "judged by its reduced northing": at or below y0 of the row before, or at or above y0 of the row after, where there is one. What 12 or 13 refuses has no
+-- reduced northing, and counts as outside.
+abbrev pub FarNorthing : List ℕ → ℕ → ℤ → Type 0
+FarNorthing s r reduced = ((0 < r) × (leZ reduced (y0Of s (r - 1)) ≡ true)) ⊎ ((r + 1 < rowsOf s latitude) × (leZ (y0Of s (r + 1)) reduced ≡ true))
+
+abbrev pub FarPlane : List ℕ → ℤ → ℤ → ℤ → Type 0
+FarPlane s minute x y =
+    eastingKnown s (xPrime s x) ≡ true → northingKnown s y ≡ true → FarNorthing s (rowNamed s minute) (reducedNorthing s (natAbs (xPrime s x)) y)
+
+-- ---- the correction itself
+pub record Corrects (s : List ℕ) (minute : ℤ) (f : Figures) : Type 0 where
+  -- "A correction to one latitude row is accepted exactly when the corrected sheet passes the whole check": only then, and always then.
+  pub only-then : correctionOf s minute f ≡ 0 → Passes (putIn s minute f)
+  pub always-then : hasMinute s minute ≡ true → Passes (putIn s minute f) → correctionOf s minute f ≡ 0
+  -- A minute with no row is 16.
+  pub no-row : hasMinute s minute ≡ false → correctionOf s minute f ≡ 16
+  -- "Accepted, it writes", and "Refused, it writes nothing."
+  pub writes : correctionOf s minute f ≡ 0 → correctedOf s minute f ≡ putIn s minute f
+  pub stays : (correctionOf s minute f ≡ 0 → ⊥) → correctedOf s minute f ≡ s
+
+-- ---- after a correction that was accepted
+pub record Afresh (s : List ℕ) (minute : ℤ) (f : Figures) : Type 0 where
+  -- The row has the new figures, and every other row its own.
+  pub new-figures : figuresAt (bodyOf (correctedOf s minute f) latitude) (rowNamed s minute) ≡ f
+  pub old-figures : (i : ℕ) → (i ≡ rowNamed s minute → ⊥) → figuresAt (bodyOf (correctedOf s minute f) latitude) i ≡ figuresAt (bodyOf s latitude) i
+  -- "the answers must be those worked afresh": each conversion is the Survey's steps on the corrected sheet.
+  pub forward : (north west : ℤ) → geographicToPlane (correctedOf s minute f) north west ≡ forwardOf (putIn s minute f) north west
+  pub inverse : (x y : ℤ) → planeToGeographic (correctedOf s minute f) x y ≡ inverseOf (putIn s minute f) x y
+
+pub record Local (s : List ℕ) (minute : ℤ) (f : Figures) : Type 0 where
+  -- "no point outside the two intervals beside that row changes": the whole answer, refusals included.
+  pub forward : (north west : ℤ) → FarLatitude minute north → geographicToPlane (correctedOf s minute f) north west ≡ geographicToPlane s north west
+  pub inverse : (x y : ℤ) → FarPlane s minute x y → planeToGeographic (correctedOf s minute f) x y ≡ planeToGeographic s x y
+  -- Convergence and scale never change.
+  pub grid : (x y : ℤ) → convergenceAndScale (correctedOf s minute f) x y ≡ convergenceAndScale s x y
+
+-- "Which of my four thousand points do I redo?" Where the answer is no, the point's answer is as before; and the question may be put to the old sheet or to the new.
+pub record Untouched (s : List ℕ) (minute : ℤ) (f : Figures) : Type 0 where
+  pub forward : (north west : ℤ) → geographicTouched s minute north west ≡ touch 0 false → geographicToPlane (correctedOf s minute f) north west ≡ geographicToPlane s north west
+  pub inverse : (x y : ℤ) → planeTouched s minute x y ≡ touch 0 false → planeToGeographic (correctedOf s minute f) x y ≡ planeToGeographic s x y
+  pub either-forward : (north west : ℤ) → geographicTouched (correctedOf s minute f) minute north west ≡ geographicTouched s minute north west
+  pub either-inverse : (x y : ℤ) → planeTouched (correctedOf s minute f) minute x y ≡ planeTouched s minute x y
+
+-- Each row can be corrected: its minute names it.
+pub record Named (s : List ℕ) (r : ℕ) : Type 0 where
+  pub has : hasMinute s (rowAt (bodyOf s latitude) r .minute) ≡ true
+  pub row : rowNamed s (rowAt (bodyOf s latitude) r .minute) ≡ r
