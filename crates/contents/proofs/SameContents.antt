@@ -12,7 +12,7 @@ use Rattle.words.specs.Faults.{firstFault}
 use Rattle.words.proofs.FirstFault.{same-faults}
 use Rattle.contents.specs.Layout.{entryCount, firstBody}
 use Rattle.contents.specs.Entries.{kindAt, startAt, rowsAt, named, dueAt, entryOf, startOf, rowsOf}
-use Rattle.contents.specs.Contents.{entryFault, sized, ends, contentsOf}
+use Rattle.contents.specs.Contents.{entryFault, sized, contentsOf}
 
 module _ (s t : List ℕ) (words : (i : ℕ) → i < firstBody → unsignedAt t i ≡ unsignedAt s i) where
   -- ---- an entry's three words

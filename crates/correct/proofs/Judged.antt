@@ -8,7 +8,7 @@ use lib.Dec.{eqb, lit≤}
 use lib.IntN.{ℤ}
 use lib.ListN.{length, take, drop}
 use borrow.Rule.Slice.PartMut.{putMid}
-use Rattle.words.specs.Ladder.{need, whereIs}
+use Rattle.words.specs.Ladder.{whereIs}
 use Rattle.words.specs.Parts.{putPart}
 use Rattle.words.proofs.Refusals.{is, is-not, rung, past, refused, passed-on}
 use Rattle.words.proofs.PartWords.{part-is}

@@ -1,10 +1,10 @@
 -- What is read of the body after row r of n was rewritten with f: every minute as before; f in row r, and every other row's figures as before; the differences of row r and of the
 -- row before it as worked from the rows, and all others as before. Assumes nothing.
-use mathlib.Core.Path.{_≡_, refl, sym, ap, _∙_}
+use mathlib.Core.Path.{_≡_, sym, _∙_}
 use mathlib.Core.Bool.{true}
 use mathlib.Core.List.{List}
 use mathlib.Core.Logic.{_≢_}
-use Prim.Native.Nat.{ℕ, suc, _+_, _-_, _*_, _<_, _≤_}
+use Prim.Native.Nat.{ℕ, _+_, _-_, _*_, _<_, _≤_}
 use native.Mathlib.Decide.{decLt}
 use native.Mathlib.Omega.{arith}
 use lib.ListN.{length}
@@ -12,7 +12,6 @@ use Rattle.words.specs.Words.{wordAt}
 use Rattle.words.specs.Ladder.{whereBelow}
 use Rattle.words.proofs.Refusals.{where-below, where-beyond}
 use Rattle.rules.specs.declared.Figures.{Figures}
-use Rattle.rules.specs.declared.Differences.{Differences}
 use Rattle.rules.specs.Latitude.{figuresInRange, withinBounds}
 use Rattle.rows.specs.Rows.{figuresAt, differencesAt}
 use Rattle.correct.specs.Correction.{boundBefore, boundAfter, putFigures, workedAt, reworked, rewritten}

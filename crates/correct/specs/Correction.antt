@@ -1,10 +1,11 @@
 -- "Correction. It gives a minute and new y0, H, V, a. It answers one number". s is the sheet, b its latitude body, the part that holds its n rows; i and r are rows, counted
--- from 0, and f the new figures. What it looks at: "the contents, the first latitude row's minute, the named row [..] and its neighbours".
+-- from 0, and f the new figures. What it looks at: "the contents, the first latitude row's minute, the named row [..] and its neighbours". So "On a sheet not checked before it
+-- follows these same rules and promises no pass."
 use mathlib.Core.Bool.{Bool, true, _&&_}
 use mathlib.Core.List.{List}
 use Prim.Native.Nat.{ℕ, _+_, _-_, _*_}
 use lib.IntN.{ℤ, pos, natAbs, _-ℤ_}
-use Rattle.words.specs.Words.{wordAt, putWord}
+use Rattle.words.specs.Words.{putWord}
 use Rattle.words.specs.Parts.{putPart}
 use Rattle.words.specs.Ladder.{need, whereBelow, whereIs, orElse}
 use Rattle.contents.specs.Layout.{latitude, widthOf}
@@ -27,7 +28,8 @@ fromFirstMinute b minute = minute -ℤ rowAt b 0 .minute
 abbrev pub namedRow : List ℕ → ℤ → ℕ
 namedRow b minute = natAbs (fromFirstMinute b minute)
 
--- False exactly where 16 is due: "no row with the correction's minute". The minute has no range of its own.
+-- False exactly where 16 is due: "no row with the correction's minute", in its place. On a sheet not checked before, a row in another place that bears the minute does not count.
+-- The minute has no range of its own.
 unfoldable pub hasRow : List ℕ → ℕ → ℤ → Bool
 hasRow b n minute = inRange (pos 0) (fromFirstMinute b minute) (pos (n - 1)) && sameAs (rowAt b (namedRow b minute) .minute) minute
 
@@ -71,11 +73,11 @@ rewritten b n r f =
     let own = reworked (putFigures b r f) n r in
     whereBelow 0 r (reworked own n (r - 1)) own
 
--- The body after the correction. "Refused, it writes nothing."
+-- The body after the correction, of a sheet whose contents have no fault. "Refused, it writes nothing."
 unfoldable pub correctedBody : List ℕ → ℕ → ℤ → Figures → List ℕ
 correctedBody b n minute f = whereIs (judgedBy b n minute f) 0 (rewritten b n (namedRow b minute) f) b
 
--- The sheet with f in row r; "all other bytes stay".
+-- The sheet with the body so rewritten; "all other bytes stay".
 unfoldable pub withRow : List ℕ → ℕ → Figures → List ℕ
 withRow s r f = putPart s (startOf s latitude) (rowsOf s latitude * widthOf latitude) (rewritten (bodyOf s latitude) (rowsOf s latitude) r f)
 

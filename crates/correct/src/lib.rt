@@ -143,13 +143,13 @@ fn correct_body(b: &mut [u8], n: usize, minute: i32, f: Figures) -> u32
     ensures answer { λ r. ⌜ r ≡ judgedBy (now (b .entry)) n minute f ⌝ }
     ensures memory { λ _. ⌜ now (b .exit) ≡ correctedBody (now (b .entry)) n minute f ⌝ }
 {
-    let number = judge(b, n, minute, f);
-    if number != 0 {
-        return number;
+    let judged = judge(b, n, minute, f);
+    if judged != 0 {
+        return judged;
     }
     let r = named_row(b, n, minute);
     rewrite(b, n, r, f);
-    number
+    judged
 }
 
 // A correction of the minute's latitude row: new y0 (0.01 ft), H (0.000001), V (0.000001) and a (0.001). 0 where it is accepted and written; else 1 to 5, 16, 6 or 8, and the

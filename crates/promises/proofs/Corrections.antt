@@ -2,15 +2,13 @@
 use mathlib.Core.Path.{_≡_, refl, sym, ap, subst, _∙_}
 use mathlib.Core.Bool.{Bool, true, false, _&&_}
 use mathlib.Core.List.{List}
-use mathlib.Core.Logic.{_⊎_, inl, inr}
-use Prim.Native.Nat.{ℕ, _+_, _-_, _*_, _^_, _<_, _≤_}
-use native.Mathlib.Nat.{add-zero}
+use mathlib.Core.Logic.{inl, inr}
+use Prim.Native.Nat.{ℕ, _+_, _-_, _*_, _<_, _≤_}
 use native.Mathlib.Decide.{decLt}
 use native.Mathlib.Omega.{arith}
 use borrow.Author.Tests.{leb-true, ltb-false}
-use lib.Dec.{T, lit≤}
+use lib.Dec.{T}
 use lib.IntN.{ℤ, pos, negsuc, natAbs, _-ℤ_, _*ℤ_}
-use lib.ListN.{length}
 use lib.Signed.{leZ, ltZ}
 use mir.Syntax.{w32}
 use mir.Val.{SFits}
@@ -18,16 +16,16 @@ use Rattle.figures.proofs.Order.{above-of}
 use Rattle.words.specs.Words.{wordAt}
 use Rattle.words.specs.Ladder.{need, whereBelow}
 use Rattle.words.proofs.Refusals.{past, where-below, where-beyond, is, is-not}
-use Rattle.contents.specs.Layout.{latitude, lastKind, stepOf}
+use Rattle.contents.specs.Layout.{latitude, stepOf}
 use Rattle.contents.specs.Entries.{rowsOf, bodyOf}
-use Rattle.contents.specs.Contents.{verdict, numberOf, contentsOf}
+use Rattle.contents.specs.Contents.{numberOf, contentsOf}
 use Rattle.rules.specs.declared.Figures.{Figures}
 use Rattle.rows.specs.Rows.{figuresAt}
 use Rattle.bodies.specs.Check.{checkOf}
-use Rattle.tables.specs.Figures.{figureOf, y0Of}
+use Rattle.tables.specs.Figures.{y0Of}
 use Rattle.tables.proofs.Parts.{contents-none}
 use Rattle.tables.proofs.Ranges.{latitude-some}
-use Rattle.extent.specs.Extent.{latitudeKnown, longitudeKnown, xPrime, eastingKnown, northingKnown}
+use Rattle.extent.specs.Extent.{latitudeKnown, longitudeKnown, xPrime}
 use Rattle.convert.specs.Forward.{forwardOf, geographicToPlane}
 use Rattle.convert.specs.Inverse.{reducedNorthing, inverseOf, planeToGeographic}
 use Rattle.convert.specs.Grid.{gridOf, convergenceAndScale}

@@ -1,20 +1,18 @@
 -- The minutes of a sheet that passes: each row's minute names it; and a latitude a minute or more from a row's lies outside the two intervals beside that row. Assumes nothing.
-use mathlib.Core.Path.{_≡_, refl, sym, ap, _∙_}
+use mathlib.Core.Path.{_≡_, sym, ap, _∙_}
 use mathlib.Core.Bool.{true}
 use mathlib.Core.List.{List}
 use mathlib.Core.Logic.{_⊎_, inl, inr}
 use Prim.Native.Nat.{ℕ, zero, suc, _+_, _-_, _*_, _<_, _≤_, zero-le}
-use native.Mathlib.Nat.{add-zero}
 use native.Mathlib.Decide.{decLe}
 use native.Mathlib.Omega.{arith}
 use borrow.Author.Tests.{le-leb}
-use lib.Dec.{lit≤}
-use lib.IntN.{ℤ, pos, negℤ, natAbs, _+ℤ_, _-ℤ_, _*ℤ_, +ℤ-assoc, +ℤ-invl, +ℤ-idl, +ℤ-negℤ-cancel, -ℤ-+ℤ-cancel}
+use lib.IntN.{ℤ, pos, negℤ, natAbs, _+ℤ_, _-ℤ_, _*ℤ_, +ℤ-assoc, +ℤ-invl, +ℤ-idl, +ℤ-negℤ-cancel}
 use Rattle.figures.proofs.Sizes.{Size, pos-minus, subℕ-le, subℕ-lt}
 use Rattle.figures.proofs.Ring.{difference-times}
 use Rattle.contents.specs.Layout.{latitude, stepOf}
 use Rattle.contents.specs.Entries.{rowsOf, bodyOf}
-use Rattle.rules.specs.Limits.{inRange, sameAs}
+use Rattle.rules.specs.Limits.{inRange}
 use Rattle.rules.proofs.Ranges.{same-self}
 use Rattle.rows.specs.Rows.{rowAt}
 use Rattle.rows.proofs.PassingFigures.{minute-in-range, minute-up}

@@ -1,19 +1,18 @@
 -- The rows of a latitude body after row r of n was rewritten with f: where the body's rows have no fault, the rewritten body's have none exactly when f is in range and keeps its
 -- bounds with both neighbours. Assumes nothing.
-use mathlib.Core.Path.{_≡_, refl, sym, ap, _∙_}
+use mathlib.Core.Path.{_≡_, refl, sym}
 use mathlib.Core.Bool.{Bool, true, _&&_}
 use mathlib.Core.List.{List}
-use mathlib.Core.Logic.{_≢_}
 use Prim.Native.Nat.{ℕ, _+_, _-_, _*_, _<_, _≤_}
 use native.Mathlib.Decide.{ℕ-discrete, decLt}
 use native.Mathlib.Omega.{arith}
-use lib.IntN.{ℤ, pos}
+use lib.IntN.{pos}
 use lib.ListN.{length}
 use Rattle.figures.proofs.Tests.{both}
 use Rattle.words.proofs.Refusals.{where-below, where-beyond}
 use Rattle.rules.specs.declared.Figures.{Figures}
 use Rattle.rules.specs.declared.Differences.{Differences}
-use Rattle.rules.specs.Limits.{inRange, rises}
+use Rattle.rules.specs.Limits.{inRange}
 use Rattle.rules.specs.Latitude.{figuresInRange, withinBounds, differencesOf, noDifferences, sameDifferences}
 use Rattle.rules.proofs.Ranges.{same-self}
 use Rattle.rows.specs.Rows.{figuresAt, differencesAt, rowAt, rowInRange}

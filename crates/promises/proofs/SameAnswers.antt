@@ -1,14 +1,14 @@
 -- Two sheets that pass and differ in the figures of latitude row r alone answer a point alike where it lies outside the two intervals beside that row. Assumes nothing.
-use mathlib.Core.Path.{_≡_, refl, sym, ap, subst, _∙_}
+use mathlib.Core.Path.{_≡_, refl, sym, ap, _∙_}
 use mathlib.Core.Bool.{Bool, true, false}
 use mathlib.Core.List.{List}
-use mathlib.Core.Logic.{_⊎_, inl, inr}
-use Prim.Native.Nat.{ℕ, zero, suc, _+_, _-_, _*_, _<_, _≤_}
+use mathlib.Core.Logic.{inl, inr}
+use Prim.Native.Nat.{ℕ, _+_, _-_, _*_, _<_, _≤_}
 use native.Mathlib.Decide.{ℕ-discrete, decLt}
 use native.Mathlib.Omega.{arith}
-use lib.Dec.{lit<, lit≤}
+use lib.Dec.{lit<}
 use lib.IntN.{ℤ, pos, natAbs, _-ℤ_, +ℤ-invr}
-use lib.Signed.{leZ, ltZ}
+use lib.Signed.{leZ}
 use Rattle.figures.specs.Nearest.{nearestSize}
 use Rattle.figures.specs.Steps.{seconds}
 use Rattle.figures.proofs.Rounding.{nearestSize-most}
@@ -21,7 +21,7 @@ use Rattle.reading.specs.Rows.{Rising}
 use Rattle.reading.proofs.Rising.{rises-rising}
 use Rattle.tables.specs.Figures.{y0Of}
 use Rattle.tables.proofs.Ranges.{y0-rises}
-use Rattle.extent.specs.Extent.{fromFirst, latitudeKnown, lOf, longitudeKnown, xPrime, eastingKnown, scaleKnown, northingKnown, sizeKnown, reducedKnown}
+use Rattle.extent.specs.Extent.{fromFirst, latitudeKnown, lOf, longitudeKnown, xPrime, eastingKnown, northingKnown, reducedKnown}
 use Rattle.extent.proofs.Reach.{reduced-reach}
 use Rattle.convert.specs.Forward.{xSize, xOf, yOf, planeAt, forwardOf}
 use Rattle.convert.specs.Inverse.{reducedNorthing, rowOf, secondsPast, distanceOf, approximateOf, sizeOf, longitudeOf, geographicAt, fromDistance, fromReduced, inverseOf}

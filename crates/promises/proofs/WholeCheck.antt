@@ -1,9 +1,9 @@
 -- A sheet that passes, with row r of its latitude body rewritten with f, passes the whole check exactly when f is in range and keeps its bounds with both neighbours. Assumes
 -- nothing.
-use mathlib.Core.Path.{_≡_, refl, sym, ap, _∙_}
+use mathlib.Core.Path.{_≡_, _∙_}
 use mathlib.Core.Bool.{true}
 use mathlib.Core.List.{List}
-use Prim.Native.Nat.{ℕ, _+_, _*_, _<_, _≤_}
+use Prim.Native.Nat.{ℕ, _*_, _<_, _≤_}
 use native.Mathlib.Decide.{ℕ-discrete}
 use native.Mathlib.Omega.{arith}
 use lib.Dec.{lit≤}
@@ -17,7 +17,7 @@ use Rattle.rules.specs.Latitude.{figuresInRange}
 use Rattle.rows.specs.Rows.{latitudeFault}
 use Rattle.rows.proofs.PassingRows.{LatitudeRow, latitude-passes}
 use Rattle.bodies.specs.Check.{rowFault, checkOf}
-use Rattle.bodies.proofs.Sound.{Sound, passes-sound, sound-passes, latitude-rows}
+use Rattle.bodies.proofs.Sound.{passes-sound, sound-passes, latitude-rows}
 use Rattle.tables.proofs.Parts.{contents-none}
 use Rattle.correct.specs.Correction.{boundBefore, boundAfter, rewritten, withRow}
 use Rattle.correct.proofs.RowWords.{FiguresFit}

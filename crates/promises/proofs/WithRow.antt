@@ -1,15 +1,14 @@
 -- What is read of a sheet after row r of its latitude body was rewritten with f: the contents, the rows of each kind and every other body as before, and of the latitude body
 -- what `correct` shows of it. Assumes nothing.
-use mathlib.Core.Path.{_≡_, refl, sym, ap, _∙_}
+use mathlib.Core.Path.{_≡_, _∙_}
 use mathlib.Core.List.{List}
 use mathlib.Core.Logic.{_⊎_, inl, inr}
 use Prim.Native.Nat.{ℕ, _+_, _*_, _<_, _≤_}
 use native.Mathlib.Nat.{le-trans}
-use native.Mathlib.Omega.{arith}
 use lib.Dec.{lit≤}
 use lib.ListN.{length}
 use Rattle.words.specs.Words.{unsignedAt}
-use Rattle.words.specs.Parts.{partOf, putPart}
+use Rattle.words.specs.Parts.{partOf}
 use Rattle.words.proofs.PuttingParts.{length-putPart, part-put, part-before, part-after, word-before}
 use Rattle.contents.specs.Layout.{latitude, lastKind, firstBody, widthOf}
 use Rattle.contents.specs.Entries.{startOf, rowsOf, bodyOf}

@@ -1,5 +1,6 @@
--- "Which of my four thousand points do I redo?" "No point outside the two intervals beside that row changes": whether a correction of the minute's latitude row may change a
--- point's answer. s is the sheet, r the row of the minute, counted from 0. North and west are a latitude and a west longitude in 0.001″; x and y are in 0.01 ft.
+-- Which points to redo after a correction of one latitude row: whether an accepted correction of the minute's row may change what geographic to plane answers to a geographic
+-- point, or plane to geographic to a plane point. Convergence and scale it never changes. s is the sheet, r the row of the minute, counted from 0. North and west are a latitude and
+-- a west longitude in 0.001″; x and y are in 0.01 ft.
 use mathlib.Core.Bool.{Bool, true, false, _&&_}
 use mathlib.Core.List.{List}
 use Prim.Native.Nat.{ℕ, _+_, _-_}
@@ -16,7 +17,7 @@ use Rattle.convert.specs.Inverse.{reducedNorthing}
 use Rattle.correct.specs.Correction.{namedRow, hasRow}
 use Rattle.touched.specs.declared.Touch.{Touch}
 
--- The answer: a number, and whether the point's answer may change. A refusal says no.
+-- The answer: a number, and whether the point's answer may change. Where the number is not 0 the question is refused: then `touched` is false, and says nothing of the point.
 abbrev pub touch : ℕ → Bool → Touch
 touch number touched = record { number = number; touched = touched }
 
@@ -51,7 +52,8 @@ abovePrior s r reduced = whereBelow 0 r (ltZ (y0Of s (r - 1)) reduced) true
 unfoldable pub belowNext : List ℕ → ℕ → ℤ → Bool
 belowNext s r reduced = whereBelow (r + 1) (rowsOf s latitude) (ltZ reduced (y0Of s (r + 1))) true
 
--- What 12 or 13 refuses stays refused. What 14 refuses may not: a correction of the first row moves the first y0, and one of the last row the last.
+-- What 12 or 13 refuses stays refused. What 14 refuses may not, since a correction of the first row moves the first y0 and one of the last row the last; nor what 11 refuses, since
+-- L is worked from H and a.
 unfoldable pub inverseTouched : List ℕ → ℕ → ℤ → ℤ → Bool
 inverseTouched s r x y =
     need (eastingKnown s (xPrime s x)) false

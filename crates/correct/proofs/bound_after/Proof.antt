@@ -4,6 +4,12 @@ use borrow.Author.Needs.{needs}
 use Rattle.correct.proofs.bound_after.Statement.{statement}
 use Rattle.correct.proofs.bound_after.Tie as tie
 
+returns : tie.Need-returns
+returns c = search after-is
+
+returns-2 : tie.Need-returns-2
+returns-2 c = search none-after
+
 add-if1 : tie.Need-add-if1
 add-if1 c = search needs
 
@@ -15,12 +21,6 @@ figures-at-requires c κs = search needs
 
 within-bounds-requires : tie.Need-within-bounds-requires
 within-bounds-requires c κs = search needs
-
-returns : tie.Need-returns
-returns c = search after-is
-
-returns-2 : tie.Need-returns-2
-returns-2 c = search none-after
 
 pub bound-after-spec : {M : Type 1} → statement M
 bound-after-spec =

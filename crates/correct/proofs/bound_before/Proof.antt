@@ -4,6 +4,12 @@ use borrow.Author.Needs.{needs}
 use Rattle.correct.proofs.bound_before.Statement.{statement}
 use Rattle.correct.proofs.bound_before.Tie as tie
 
+returns : tie.Need-returns
+returns c = search before-is
+
+returns-2 : tie.Need-returns-2
+returns-2 c = search none-before
+
 sub-figures-at : tie.Need-sub-figures-at
 sub-figures-at c = search needs
 
@@ -12,12 +18,6 @@ figures-at-requires c κs = search needs
 
 within-bounds-requires : tie.Need-within-bounds-requires
 within-bounds-requires c κs = search needs
-
-returns : tie.Need-returns
-returns c = search before-is
-
-returns-2 : tie.Need-returns-2
-returns-2 c = search none-before
 
 pub bound-before-spec : {M : Type 1} → statement M
 bound-before-spec =

@@ -17,16 +17,30 @@ use Rattle.correct.proofs.correct.Tie as tie
 pass : (c : tie.Else1) → contentsOf (now (c .before .before .before .before .args .sheet)) .number ≡ 0
 pass c = sym (ap numberOf (c .before .contents .ensures)) ∙ c .if1 .left
 
--- past the contents, which have no fault
+returns : tie.Need-returns
+returns c = contents-refuse _ _ _ _ (c .before .contents .ensures) (c .if1 .taken)
+
+returns-2 : tie.Need-returns-2
+returns-2 c =
+    let start = c .before .before .before .before .before .before .before .before .before .before .before .before in
+    let a = start .args in
+    let at = c .before .before .before .before .before in
+    let minute : toZ w32 (ofZ w32 (a .minute)) ≡ a .minute = search needs in
+    let y0 : toZ w32 (ofZ w32 (a .y0)) ≡ a .y0 = search needs in
+    let h : toZ w32 (ofZ w32 (a .h)) ≡ a .h = search needs in
+    let v : toZ w32 (ofZ w32 (a .v)) ≡ a .v = search needs in
+    let last : toZ w32 (ofZ w32 (a .a)) ≡ a .a = search needs in
+    let same : figures (toZ w32 (ofZ w32 (a .y0))) (toZ w32 (ofZ w32 (a .h))) (toZ w32 (ofZ w32 (a .v))) (toZ w32 (ofZ w32 (a .a))) ≡ figures (a .y0) (a .h) (a .v) (a .a) = rw (y0, h, v, last) in
+    let z = pass (at .before .before .before) in (
+      sheet-number _ _ _ z _ _ (at .before .place-of .ensures) (at .width-of .ensures) _ (c .before .before .correct-body .ensures .0 ∙ rw (minute, same)),
+      sheet-after _ _ _ z _ _ (at .before .place-of .ensures) (at .width-of .ensures) _ (c .before .before .correct-body .ensures .1 ∙ rw (minute, same)),
+    )
 
 contents-requires : tie.Need-contents-requires
 contents-requires c κs = search needs
 
 same-length : tie.Need-same-length
 same-length c = search needs
-
-returns : tie.Need-returns
-returns c = contents-refuse _ _ _ _ (c .before .contents .ensures) (c .if1 .taken)
 
 place-of-requires : tie.Need-place-of-requires
 place-of-requires c κs = long-enough _ latitude (pass (c .before)) (lit≤ tt) (lit≤ tt)
@@ -60,22 +74,6 @@ correct-body-requires c κs = (part-some _ latitude (pass (c .before .before .be
 
 same-length-2 : tie.Need-same-length-2
 same-length-2 c = search needs
-
-returns-2 : tie.Need-returns-2
-returns-2 c =
-    let start = c .before .before .before .before .before .before .before .before .before .before .before .before in
-    let a = start .args in
-    let at = c .before .before .before .before .before in
-    let minute : toZ w32 (ofZ w32 (a .minute)) ≡ a .minute = search needs in
-    let y0 : toZ w32 (ofZ w32 (a .y0)) ≡ a .y0 = search needs in
-    let h : toZ w32 (ofZ w32 (a .h)) ≡ a .h = search needs in
-    let v : toZ w32 (ofZ w32 (a .v)) ≡ a .v = search needs in
-    let last : toZ w32 (ofZ w32 (a .a)) ≡ a .a = search needs in
-    let same : figures (toZ w32 (ofZ w32 (a .y0))) (toZ w32 (ofZ w32 (a .h))) (toZ w32 (ofZ w32 (a .v))) (toZ w32 (ofZ w32 (a .a))) ≡ figures (a .y0) (a .h) (a .v) (a .a) = rw (y0, h, v, last) in
-    let z = pass (at .before .before .before) in (
-      sheet-number _ _ _ z _ _ (at .before .place-of .ensures) (at .width-of .ensures) _ (c .before .before .correct-body .ensures .0 ∙ rw (minute, same)),
-      sheet-after _ _ _ z _ _ (at .before .place-of .ensures) (at .width-of .ensures) _ (c .before .before .correct-body .ensures .1 ∙ rw (minute, same)),
-    )
 
 pub correct-spec : {M : Type 1} → statement M
 correct-spec =

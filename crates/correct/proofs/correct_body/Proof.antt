@@ -1,6 +1,5 @@
 -- `correct::correct_body` meets its contract. Assumes nothing.
-use mathlib.Core.Path.{_≡_, sym, ap, _∙_}
-use mathlib.Core.Bool.{true}
+use mathlib.Core.Path.{_≡_, ap, _∙_}
 use Prim.Native.Nat.{ℕ}
 use lib.IntN.{ℤ}
 use denote.Ref.{now}
@@ -27,14 +26,19 @@ keeps c = accepted-keeps _ _ _ _ _ (judged (c .before)) (c .if1 .left)
 named : (c : tie.After-named-row) → c .named-row .result ≡ namedRow (now (c .before .before .before .before .before .before .args .b)) (c .before .before .before .before .before .before .args .minute)
 named c = c .named-row .ensures .0 ∙ ap (namedRow _) (same (c .before .before .before))
 
+returns : tie.Need-returns
+returns c = (judged (c .before), refused-stays _ _ _ _ _ (judged (c .before)) (c .if1 .taken))
+
+returns-2 : tie.Need-returns-2
+returns-2 c =
+    let j = c .before .before .before .before .before .before .before in
+    (judged j, accepted-writes _ _ _ _ _ (judged j) (c .before .before .before .before .before .before .if1 .left) _ _ (named (c .before .before .before .before)) (c .before .before .rewrite .ensures))
+
 judge-requires : tie.Need-judge-requires
 judge-requires c κs = search needs
 
 same-length : tie.Need-same-length
 same-length c = search needs
-
-returns : tie.Need-returns
-returns c = (judged (c .before), refused-stays _ _ _ _ _ (judged (c .before)) (c .if1 .taken))
 
 named-row-requires : tie.Need-named-row-requires
 named-row-requires c κs =
@@ -51,11 +55,6 @@ rewrite-requires c κs =
 
 same-length-2 : tie.Need-same-length-2
 same-length-2 c = search needs
-
-returns-2 : tie.Need-returns-2
-returns-2 c =
-    let j = c .before .before .before .before .before .before .before in
-    (judged j, accepted-writes _ _ _ _ _ (judged j) (c .before .before .before .before .before .before .if1 .left) _ _ (named (c .before .before .before .before)) (c .before .before .rewrite .ensures))
 
 pub correct-body-spec : {M : Type 1} → statement M
 correct-body-spec =

@@ -16,6 +16,10 @@ minute c = held (c .fits .minute) (size-i32 (c .fits .minute))
 first : (c : tie.After-word) → Holds w32 (ofZ w32 (c .word .result)) (c .word .result) 2_147_483_648
 first c = held-i32 (c .word .result) (c .word .ok)
 
+returns : tie.Need-returns
+unfolding fromFirstMinute
+returns c = difference (cast (minute (c .before .before)) tt) (cast (first c) tt) tt .is ∙ ap (λ (z : ℤ). c .before .before .args .minute -ℤ z) (c .word .ensures)
+
 cast-result : tie.Need-cast-result
 cast-result c = cast-fits (minute (c .before)) tt
 
@@ -27,10 +31,6 @@ cast-result-2 c = cast-fits (first c) tt
 
 sub-result : tie.Need-sub-result
 sub-result c = difference-fits (cast (minute (c .before .before)) tt) (cast (first c) tt) tt
-
-returns : tie.Need-returns
-unfolding fromFirstMinute
-returns c = difference (cast (minute (c .before .before)) tt) (cast (first c) tt) tt .is ∙ ap (λ (z : ℤ). c .before .before .args .minute -ℤ z) (c .word .ensures)
 
 pub from-first-minute-spec : {M : Type 1} → statement M
 from-first-minute-spec =

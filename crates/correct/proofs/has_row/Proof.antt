@@ -11,7 +11,6 @@ use Rattle.figures.proofs.Sizes.{Size}
 use Rattle.correct.specs.Correction.{fromFirstMinute}
 use Rattle.correct.proofs.Place.{none-below, none-above, place-size, by-minute, cast-place, eight-place, own-word}
 use borrow.Author.Needs.{sfits-of}
-use borrow.Author.Needs.{sfits-of}
 use borrow.Author.Needs.{needs}
 use Rattle.correct.proofs.has_row.Statement.{statement}
 use Rattle.correct.proofs.has_row.Tie as tie
@@ -31,17 +30,25 @@ above c =
 inside : (c : tie.Else2) → Size 0 (toZ w64 (ofZ w64 (c .before .before .from-first-minute .result))) (c .before .before .before .before .args .n - 1)
 inside c = place-size _ _ _ _ (place (c .before .before)) (c .before .before .before .before .pre .0) (c .before .if1 .left) (above (c .before) ∙ c .if2 .left)
 
-from-first-minute-requires : tie.Need-from-first-minute-requires
-from-first-minute-requires c κs = search needs
-
 returns : tie.Need-returns
 returns c = none-below _ _ _ _ (place (c .before)) (c .before .before .before .pre .0) (c .if1 .taken)
 
-cast-if2 : tie.Need-cast-if2
-cast-if2 c = search needs
-
 returns-2 : tie.Need-returns-2
 returns-2 c = none-above _ _ _ _ (place (c .before .before)) (c .before .before .before .before .pre .0) (above (c .before) ∙ c .if2 .taken)
+
+returns-3 : tie.Need-returns-3
+returns-3 c =
+    let start = c .before .before .before .before .before .before in
+    let same : toZ w32 (ofZ w32 (start .args .minute)) ≡ start .args .minute = search needs in
+    let own : toZ w32 (ofZ w32 (c .before .word .result)) ≡ c .before .word .result = search needs in
+    by-minute _ _ _ _ (place (c .before .before .before .before)) (start .pre .0) (c .before .before .before .if1 .left) (above (c .before .before .before) ∙ c .before .before .if2 .left)
+    (c .before .word .result) _ (c .before .word .ensures) (c .same-as .ensures ∙ rw (same, own))
+
+from-first-minute-requires : tie.Need-from-first-minute-requires
+from-first-minute-requires c κs = search needs
+
+cast-if2 : tie.Need-cast-if2
+cast-if2 c = search needs
 
 cast-word : tie.Need-cast-word
 cast-word c = cast-place _ _ (inside c) (c .before .before .before .before .pre .0) (c .before .before .before .before .pre .1) (search needs)
@@ -54,14 +61,6 @@ word-requires c κs = own-word _ _ (inside c) (c .before .before .before .before
 
 same-as-requires : tie.Need-same-as-requires
 same-as-requires c κs = search needs
-
-returns-3 : tie.Need-returns-3
-returns-3 c =
-    let start = c .before .before .before .before .before .before in
-    let same : toZ w32 (ofZ w32 (start .args .minute)) ≡ start .args .minute = search needs in
-    let own : toZ w32 (ofZ w32 (c .before .word .result)) ≡ c .before .word .result = search needs in
-    by-minute _ _ _ _ (place (c .before .before .before .before)) (start .pre .0) (c .before .before .before .if1 .left) (above (c .before .before .before) ∙ c .before .before .if2 .left)
-    (c .before .word .result) _ (c .before .word .ensures) (c .same-as .ensures ∙ rw (same, own))
 
 pub has-row-spec : {M : Type 1} → statement M
 has-row-spec =

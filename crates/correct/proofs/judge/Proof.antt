@@ -32,27 +32,13 @@ after-is c =
     let a = c .before .before .before .before .before .before .before .before .before .args in
     c .bound-after .ensures ∙ ap (λ (r : ℕ). boundAfter (now (a .b)) (a .n) r (a .f)) (named-is (c .before .before .before))
 
-has-row-requires : tie.Need-has-row-requires
-has-row-requires c κs = search needs
-
 returns : tie.Need-returns
 unfolding judgedBy
 returns c = stop _ _ _ _ (row-is (c .before)) (c .if1 .taken)
 
-figures-in-range-requires : tie.Need-figures-in-range-requires
-figures-in-range-requires c κs = search needs
-
 returns-2 : tie.Need-returns-2
 unfolding judgedBy
 returns-2 c = go _ _ _ _ _ (row-is (c .before .before .before)) (c .before .before .if1 .left) (stop _ _ _ _ (c .before .figures-in-range .ensures) (c .if2 .taken))
-
-named-row-requires : tie.Need-named-row-requires
-named-row-requires c κs =
-    let start = c .before .before .before .before .before in
-    (start .pre .0, start .pre .1, kept _ _ (c .before .before .before .has-row .ensures) (c .before .before .if1 .left))
-
-bound-before-requires : tie.Need-bound-before-requires
-bound-before-requires c κs = search needs
 
 returns-3 : tie.Need-returns-3
 unfolding judgedBy
@@ -60,9 +46,6 @@ returns-3 c =
     go _ _ _ _ _ (row-is (c .before .before .before .before .before .before)) (c .before .before .before .before .before .if1 .left)
     (go _ _ _ _ _ (c .before .before .before .before .figures-in-range .ensures) (c .before .before .before .if2 .left)
     (stop _ _ _ _ (before-is (c .before)) (c .if3 .taken)))
-
-bound-after-requires : tie.Need-bound-after-requires
-bound-after-requires c κs = search needs
 
 returns-4 : tie.Need-returns-4
 unfolding judgedBy
@@ -79,6 +62,23 @@ returns-5 c =
     (go _ _ _ _ _ (c .before .before .before .before .before .before .figures-in-range .ensures) (c .before .before .before .before .before .if2 .left)
     (go _ _ _ _ _ (before-is (c .before .before .before)) (c .before .before .if3 .left)
     (go _ _ _ _ _ (after-is (c .before)) (c .if4 .left) refl)))
+
+has-row-requires : tie.Need-has-row-requires
+has-row-requires c κs = search needs
+
+figures-in-range-requires : tie.Need-figures-in-range-requires
+figures-in-range-requires c κs = search needs
+
+named-row-requires : tie.Need-named-row-requires
+named-row-requires c κs =
+    let start = c .before .before .before .before .before in
+    (start .pre .0, start .pre .1, kept _ _ (c .before .before .before .has-row .ensures) (c .before .before .if1 .left))
+
+bound-before-requires : tie.Need-bound-before-requires
+bound-before-requires c κs = search needs
+
+bound-after-requires : tie.Need-bound-after-requires
+bound-after-requires c κs = search needs
 
 pub judge-spec : {M : Type 1} → statement M
 judge-spec =

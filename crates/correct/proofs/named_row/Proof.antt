@@ -23,14 +23,14 @@ place c =
 inside : (c : tie.After-from-first-minute) → Size 0 (toZ w64 (ofZ w64 (c .from-first-minute .result))) (c .before .before .args .n - 1)
 inside c = rw (place c) (row-size _ _ _ (c .before .before .pre .2))
 
+returns : tie.Need-returns
+returns c = (ap natAbs (place c), rw (place c) (row-there _ _ _ (c .before .before .pre .2) (c .before .before .pre .0)))
+
 from-first-minute-requires : tie.Need-from-first-minute-requires
 from-first-minute-requires c κs = search needs
 
 cast-result : tie.Need-cast-result
 cast-result c = cast-place _ _ (inside c) (c .before .before .pre .0) (c .before .before .pre .1) (search needs)
-
-returns : tie.Need-returns
-returns c = (ap natAbs (place c), rw (place c) (row-there _ _ _ (c .before .before .pre .2) (c .before .before .pre .0)))
 
 pub named-row-spec : {M : Type 1} → statement M
 named-row-spec = tie.close (tie.spec from-first-minute-requires cast-result returns)

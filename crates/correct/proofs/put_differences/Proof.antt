@@ -4,6 +4,9 @@ use borrow.Author.Needs.{needs}
 use Rattle.correct.proofs.put_differences.Statement.{statement}
 use Rattle.correct.proofs.put_differences.Tie as tie
 
+returns : tie.Need-returns
+returns c = search (three-put, needs)
+
 mul-put-word : tie.Need-mul-put-word
 mul-put-word c = search needs
 
@@ -33,9 +36,6 @@ put-word-requires-3 c κs = search needs
 
 same-length : tie.Need-same-length
 same-length c = search needs
-
-returns : tie.Need-returns
-returns c = search (three-put, needs)
 
 pub put-differences-spec : {M : Type 1} → statement M
 put-differences-spec =

@@ -4,6 +4,14 @@ use borrow.Author.Needs.{needs}
 use Rattle.correct.proofs.rewrite.Statement.{statement}
 use Rattle.correct.proofs.rewrite.Tie as tie
 
+returns : tie.Need-returns
+returns c =
+    later-row _ _ _ _ _ _ (c .before .before .before .before .before .before .before .before .before .before .before .put-figures .ensures) (c .before .before .before .before .before .before .before .rework .ensures) (c .before .before .before .before .if1 .taken) _ (c .before .before .rework2 .ensures)
+
+returns-2 : tie.Need-returns-2
+returns-2 c =
+    first-row _ _ _ _ _ _ (c .before .before .before .before .before .before .before .put-figures .ensures) (c .before .before .before .rework .ensures) (c .if1 .left)
+
 put-figures-requires : tie.Need-put-figures-requires
 put-figures-requires c κs = search needs
 
@@ -23,16 +31,8 @@ rework-requires-2 c κs =
 same-length : tie.Need-same-length
 same-length c = search needs
 
-returns : tie.Need-returns
-returns c =
-    later-row _ _ _ _ _ _ (c .before .before .before .before .before .before .before .before .before .before .before .put-figures .ensures) (c .before .before .before .before .before .before .before .rework .ensures) (c .before .before .before .before .if1 .taken) _ (c .before .before .rework2 .ensures)
-
 same-length-2 : tie.Need-same-length-2
 same-length-2 c = search needs
-
-returns-2 : tie.Need-returns-2
-returns-2 c =
-    first-row _ _ _ _ _ _ (c .before .before .before .before .before .before .before .put-figures .ensures) (c .before .before .before .rework .ensures) (c .if1 .left)
 
 pub rewrite-spec : {M : Type 1} → statement M
 rewrite-spec =

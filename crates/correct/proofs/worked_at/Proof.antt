@@ -4,6 +4,12 @@ use borrow.Author.Needs.{needs}
 use Rattle.correct.proofs.worked_at.Statement.{statement}
 use Rattle.correct.proofs.worked_at.Tie as tie
 
+returns : tie.Need-returns
+returns c = search worked-with
+
+returns-2 : tie.Need-returns-2
+returns-2 c = search worked-last
+
 add-if1 : tie.Need-add-if1
 add-if1 c = search needs
 
@@ -19,14 +25,8 @@ figures-at-requires-2 c κs = search needs
 differences-of-requires : tie.Need-differences-of-requires
 differences-of-requires c κs = search read-bounds
 
-returns : tie.Need-returns
-returns c = search worked-with
-
 no-differences-requires : tie.Need-no-differences-requires
 no-differences-requires c κs = search needs
-
-returns-2 : tie.Need-returns-2
-returns-2 c = search worked-last
 
 pub worked-at-spec : {M : Type 1} → statement M
 worked-at-spec =
