@@ -3,16 +3,16 @@ use mathlib.Core.Path.{_≡_, refl, sym, ap, subst, _∙_}
 use mathlib.Core.Bool.{Bool, true, false, _&&_}
 use mathlib.Core.List.{List}
 use mathlib.Core.Logic.{inl, inr}
-use Prim.Native.Nat.{ℕ, _+_, _-_, _*_, _<_, _≤_}
+use Prim.Native.Nat.{ℕ, _+_, _-_, _*_, _<_}
 use native.Mathlib.Decide.{decLt}
 use native.Mathlib.Omega.{arith}
 use borrow.Author.Tests.{leb-true, ltb-false}
 use lib.Dec.{T}
-use lib.IntN.{ℤ, pos, negsuc, natAbs, _-ℤ_, _*ℤ_}
+use lib.IntN.{ℤ, pos, negsuc, natAbs, _+ℤ_, _-ℤ_, _*ℤ_, -ℤ-+ℤ-cancel}
 use lib.Signed.{leZ, ltZ}
 use mir.Syntax.{w32}
 use mir.Val.{SFits}
-use Rattle.figures.proofs.Order.{above-of}
+use Rattle.figures.proofs.Order.{above-of, not-above-of, ltZ-leZ, leZ-ltZ, leZ-shift}
 use Rattle.words.specs.Words.{wordAt}
 use Rattle.words.specs.Ladder.{need, whereBelow}
 use Rattle.words.proofs.Refusals.{past, where-below, where-beyond, is, is-not}
@@ -24,8 +24,9 @@ use Rattle.rows.specs.Rows.{figuresAt}
 use Rattle.bodies.specs.Check.{checkOf}
 use Rattle.tables.specs.Figures.{y0Of}
 use Rattle.tables.proofs.Parts.{contents-none}
-use Rattle.tables.proofs.Ranges.{latitude-some}
-use Rattle.extent.specs.Extent.{latitudeKnown, longitudeKnown, xPrime}
+use Rattle.reading.specs.Rows.{RisesBy}
+use Rattle.tables.proofs.Ranges.{latitude-some, y0-rises}
+use Rattle.extent.specs.Extent.{latitudeKnown, longitudeKnown, xPrime, eastingKnown, northingKnown, reducedKnown}
 use Rattle.convert.specs.Forward.{forwardOf, geographicToPlane}
 use Rattle.convert.specs.Inverse.{reducedNorthing, inverseOf, planeToGeographic}
 use Rattle.convert.specs.Grid.{gridOf, convergenceAndScale}
@@ -36,11 +37,12 @@ use Rattle.correct.proofs.RowWords.{FiguresFit, figures-fit}
 use Rattle.correct.proofs.Rewritten.{minutes-stay, figures-stay, figures-new}
 use Rattle.correct.proofs.Judged.{Kept, zero-keeps, kept-zero, number-is}
 use Rattle.touched.specs.Touched.{touch, noTouch, hasMinute, rowNamed, nearRow, forwardTouched, abovePrior, belowNext, inverseTouched, geographicTouched, planeTouched}
-use Rattle.promises.specs.Corrections.{Passes, Word, Words, putIn, FarLatitude, FarNorthing, FarPlane, Corrects, Afresh, Local, Untouched}
+use Rattle.touched.proofs.Beside.{two-rows}
+use Rattle.promises.specs.Corrections.{Passes, Word, Words, putIn, FarLatitude, Corrects, Afresh, Local, Untouched}
 use Rattle.promises.proofs.WithRow.{body-long, rows-stay, body-stays, latitude-body}
 use Rattle.promises.proofs.WholeCheck.{passes-with, must-range, must-before, must-after}
 use Rattle.promises.proofs.Beside.{Beside, latitude-rows, latitude-same, longitude-same, x-prime-same, easting-same, northing-same, y0-row-same}
-use Rattle.promises.proofs.SameAnswers.{forward-same, inverse-same, grid-same, reduced-same}
+use Rattle.promises.proofs.SameAnswers.{Apart, forward-same, inverse-same, grid-same, reduced-same}
 use Rattle.promises.proofs.Minutes.{far-outside}
 
 -- ---- figures of 32 bits are words
@@ -58,6 +60,32 @@ not-less a c h = pick (leZ c a) refl
     pick : (p : Bool) → leZ c a ≡ p → leZ c a ≡ true
     pick true e = e
     pick false e = absurd (subst T (sym (above-of c a e) ∙ h) tt)
+
+-- ---- how far the first y0 and the last of a sheet that passes can lie from their neighbours
+module _ (s : List ℕ) (ok : checkOf s .number ≡ 0) (z : ℤ) where
+  abbrev rows : ℕ
+  rows = rowsOf s latitude
+
+  below-first : leZ (y0Of s 1 -ℤ pos 615_000) z ≡ false → reducedKnown s z ≡ false
+  unfolding reducedKnown RisesBy
+  below-first e =
+      let reach : leZ (y0Of s 1) (y0Of s 0 +ℤ pos 615_000) ≡ true = y0-rises s ok 0 (omega (arith, two-rows s ok)) .1 in
+      let least : leZ (y0Of s 1 -ℤ pos 615_000) (y0Of s 0) ≡ true =
+      sym (leZ-shift (y0Of s 1 -ℤ pos 615_000) (y0Of s 0) (pos 615_000)) ∙ rw (-ℤ-+ℤ-cancel (y0Of s 1) (pos 615_000)) reach in
+      rw (not-above-of (y0Of s 0) z (ltZ-leZ z (y0Of s 1 -ℤ pos 615_000) (y0Of s 0) (above-of (y0Of s 1 -ℤ pos 615_000) z e) least))
+
+  above-last : leZ z (y0Of s (rows - 2) +ℤ pos 615_000) ≡ false → reducedKnown s z ≡ false
+  unfolding reducedKnown RisesBy
+  above-last e =
+      let next : rows - 2 + 1 ≡ rows - 1 = omega (arith, two-rows s ok) in
+      let reach : leZ (y0Of s (rows - 1)) (y0Of s (rows - 2) +ℤ pos 615_000) ≡ true = rw next at (y0-rises s ok (rows - 2) (omega (arith, two-rows s ok)) .1) in
+      let over : leZ z (y0Of s (rows - 1)) ≡ false =
+      not-above-of z (y0Of s (rows - 1)) (leZ-ltZ (y0Of s (rows - 1)) (y0Of s (rows - 2) +ℤ pos 615_000) z reach (above-of z (y0Of s (rows - 2) +ℤ pos 615_000) e)) in
+      rw over (and-false (leZ (y0Of s 0) z))
+    where
+      and-false : (p : Bool) → (p && false) ≡ false
+      and-false true = refl
+      and-false false = refl
 
 module _ (s : List ℕ) (passes : Passes s) (minute : ℤ) (f : Figures) where
   abbrev b : List ℕ
@@ -169,14 +197,16 @@ module _ (s : List ℕ) (passes : Passes s) (minute : ℤ) (f : Figures) where
         ∙ forward-same s t r beside north west (λ k l. far-outside s ok minute has north k (far k l))
         ∙ sym (plane-steps s ok north west)
 
-    earth-stays : (x y : ℤ) → FarPlane s minute x y → planeToGeographic (correctedOf s minute f) x y ≡ planeToGeographic s x y
-    earth-stays x y far = afresh .inverse x y ∙ inverse-same s t r beside (there has) ok ok′ x y far ∙ sym (earth-steps s ok x y)
+    earth-stays : (x y : ℤ)
+        → (eastingKnown s (xPrime s x) ≡ true → northingKnown s y ≡ true → Apart s t r beside (there has) ok ok′ (reducedNorthing s (natAbs (xPrime s x)) y))
+        → planeToGeographic (correctedOf s minute f) x y ≡ planeToGeographic s x y
+    earth-stays x y apart = afresh .inverse x y ∙ inverse-same s t r beside (there has) ok ok′ x y apart ∙ sym (earth-steps s ok x y)
 
     pub locally : Local s minute f
     locally =
         record {
           forward = λ north west far. plane-stays north west (λ k l. far);
-          inverse = earth-stays;
+          inverse = λ x y far. earth-stays x y (λ k l. inl (far k l));
           grid = λ x y. ap (λ (u : List ℕ). convergenceAndScale u x y) (writes accepted) ∙ grid-steps t ok′ x y ∙ grid-same s t r beside x y ∙ sym (grid-steps s ok x y);
         }
 
@@ -201,24 +231,36 @@ module _ (s : List ℕ) (passes : Passes s) (minute : ℤ) (f : Figures) where
         ltb-false (natAbs (north -ℤ minute *ℤ pos (stepOf latitude))) (stepOf latitude)
         (sym (past false (nearRow minute north) l) ∙ sym (past false (need (longitudeKnown s west) false (nearRow minute north)) k) ∙ e)
 
-    -- and of a plane point
-    prior-far : (reduced : ℤ) → abovePrior s r reduced ≡ false → FarNorthing s r reduced
+    -- and of a plane point: it is far, or beyond what the first row's y0, or the last row's, can reach
+    abbrev Stays : ℤ → Type 0
+    Stays reduced = Apart s t r beside (there has) ok ok′ reduced
+
+    prior-stays : (reduced : ℤ) → abovePrior s r reduced ≡ false → Stays reduced
     unfolding abovePrior
-    prior-far reduced e = pick (decLt 0 r)
+    prior-stays reduced e = pick (decLt 0 r)
       where
-        pick : Dec (0 < r) → FarNorthing s r reduced
-        pick (yes h) = inl (h, not-less (y0Of s (r - 1)) reduced (sym (where-below 0 r (ltZ (y0Of s (r - 1)) reduced) true h) ∙ e))
-        pick (no h) = absurd (subst T (sym (where-beyond 0 r (ltZ (y0Of s (r - 1)) reduced) true (omega arith)) ∙ e) tt)
+        pick : Dec (0 < r) → Stays reduced
+        pick (yes h) = inl (inl (h, not-less (y0Of s (r - 1)) reduced (sym (where-below 0 r (ltZ (y0Of s (r - 1)) reduced) (leZ (y0Of s (r + 1) -ℤ pos 615_000) reduced) h) ∙ e)))
+        pick (no h) =
+            let first : r ≡ 0 = omega arith in
+            let below = sym (where-beyond 0 r (ltZ (y0Of s (r - 1)) reduced) (leZ (y0Of s (r + 1) -ℤ pos 615_000) reduced) (omega arith)) ∙ e in
+            inr (below-first s ok reduced (rw first at below), below-first t ok′ reduced (rw (y0-row-same s t r beside 1 (λ q. omega arith)) (rw first at below)))
 
-    next-far : (reduced : ℤ) → belowNext s r reduced ≡ false → FarNorthing s r reduced
+    next-stays : (reduced : ℤ) → belowNext s r reduced ≡ false → Stays reduced
     unfolding belowNext
-    next-far reduced e = pick (decLt (r + 1) n)
+    next-stays reduced e = pick (decLt (r + 1) n)
       where
-        pick : Dec (r + 1 < n) → FarNorthing s r reduced
-        pick (yes h) = inr (h, not-less reduced (y0Of s (r + 1)) (sym (where-below (r + 1) n (ltZ reduced (y0Of s (r + 1))) true h) ∙ e))
-        pick (no h) = absurd (subst T (sym (where-beyond (r + 1) n (ltZ reduced (y0Of s (r + 1))) true (omega arith)) ∙ e) tt)
+        pick : Dec (r + 1 < n) → Stays reduced
+        pick (yes h) =
+            inl (inr (h, not-less reduced (y0Of s (r + 1)) (sym (where-below (r + 1) n (ltZ reduced (y0Of s (r + 1))) (leZ reduced (y0Of s (r - 1) +ℤ pos 615_000)) h) ∙ e)))
+        pick (no h) =
+            let last : r ≡ n - 1 = omega (arith, there has) in
+            let before : r - 1 ≡ n - 2 = omega arith in
+            let above = sym (where-beyond (r + 1) n (ltZ reduced (y0Of s (r + 1))) (leZ reduced (y0Of s (r - 1) +ℤ pos 615_000)) (omega arith)) ∙ e in
+            let above′ = rw before at above in
+            inr (above-last s ok reduced above′, above-last t ok′ reduced (rw (latitude-rows s t r beside, y0-row-same s t r beside (n - 2) (λ q. omega (arith, two-rows s ok))) above′))
 
-    says-aside : (x y : ℤ) → inverseTouched s r x y ≡ false → FarPlane s minute x y
+    says-aside : (x y : ℤ) → inverseTouched s r x y ≡ false → eastingKnown s (xPrime s x) ≡ true → northingKnown s y ≡ true → Stays (reducedNorthing s (natAbs (xPrime s x)) y)
     unfolding inverseTouched
     says-aside x y e k l = pick (abovePrior s r reduced) refl (belowNext s r reduced) refl both-say
       where
@@ -228,9 +270,9 @@ module _ (s : List ℕ) (passes : Passes s) (minute : ℤ) (f : Figures) where
         both-say : (abovePrior s r reduced && belowNext s r reduced) ≡ false
         both-say = sym (past false _ l) ∙ sym (past false _ k) ∙ e
 
-        pick : (p : Bool) → abovePrior s r reduced ≡ p → (q : Bool) → belowNext s r reduced ≡ q → (p && q) ≡ false → FarNorthing s r reduced
-        pick false h q g no-touch = prior-far reduced h
-        pick true h false g no-touch = next-far reduced g
+        pick : (p : Bool) → abovePrior s r reduced ≡ p → (q : Bool) → belowNext s r reduced ≡ q → (p && q) ≡ false → Stays reduced
+        pick false h q g no-touch = prior-stays reduced h
+        pick true h false g no-touch = next-stays reduced g
         pick true h true g no-touch = absurd (subst T no-touch tt)
 
     -- ---- the new sheet says the same
@@ -251,14 +293,31 @@ module _ (s : List ℕ) (passes : Passes s) (minute : ℤ) (f : Figures) where
     unfolding abovePrior
     prior-says reduced = pick (decLt 0 r)
       where
-        pick : Dec (0 < r) → whereBelow 0 r (ltZ (y0Of t (r - 1)) reduced) true ≡ whereBelow 0 r (ltZ (y0Of s (r - 1)) reduced) true
-        pick (yes h) = rw (y0-row-same s t r beside (r - 1) (λ e. omega arith))
-        pick (no h) =
-            where-beyond 0 r (ltZ (y0Of t (r - 1)) reduced) true (omega arith) ∙ sym (where-beyond 0 r (ltZ (y0Of s (r - 1)) reduced) true (omega arith))
+        next : y0Of t (r + 1) ≡ y0Of s (r + 1)
+        next = y0-row-same s t r beside (r + 1) (λ e. omega arith)
+
+        least : Bool
+        least = leZ (y0Of s (r + 1) -ℤ pos 615_000) reduced
+
+        pick : Dec (0 < r) → whereBelow 0 r (ltZ (y0Of t (r - 1)) reduced) (leZ (y0Of t (r + 1) -ℤ pos 615_000) reduced) ≡ whereBelow 0 r (ltZ (y0Of s (r - 1)) reduced) least
+        pick (yes h) = rw (y0-row-same s t r beside (r - 1) (λ e. omega arith), next)
+        pick (no h) = rw next (where-beyond 0 r (ltZ (y0Of t (r - 1)) reduced) least (omega arith) ∙ sym (where-beyond 0 r (ltZ (y0Of s (r - 1)) reduced) least (omega arith)))
 
     next-says : (reduced : ℤ) → belowNext t r reduced ≡ belowNext s r reduced
     unfolding belowNext
-    next-says reduced = rw (latitude-rows s t r beside, y0-row-same s t r beside (r + 1) (λ e. omega arith))
+    next-says reduced = pick (decLt (r + 1) n)
+      where
+        next : y0Of t (r + 1) ≡ y0Of s (r + 1)
+        next = y0-row-same s t r beside (r + 1) (λ e. omega arith)
+
+        pick : Dec (r + 1 < n)
+            → whereBelow (r + 1) (rowsOf t latitude) (ltZ reduced (y0Of t (r + 1))) (leZ reduced (y0Of t (r - 1) +ℤ pos 615_000))
+            ≡ whereBelow (r + 1) n (ltZ reduced (y0Of s (r + 1))) (leZ reduced (y0Of s (r - 1) +ℤ pos 615_000))
+        pick (yes h) =
+            rw (latitude-rows s t r beside, next)
+            (where-below (r + 1) n (ltZ reduced (y0Of s (r + 1))) (leZ reduced (y0Of t (r - 1) +ℤ pos 615_000)) h
+            ∙ sym (where-below (r + 1) n (ltZ reduced (y0Of s (r + 1))) (leZ reduced (y0Of s (r - 1) +ℤ pos 615_000)) h))
+        pick (no h) = rw (latitude-rows s t r beside, next, y0-row-same s t r beside (r - 1) (λ e. omega (arith, two-rows s ok)))
 
     inverse-says : (x y : ℤ) → inverseTouched t (rowNamed t minute) x y ≡ inverseTouched s r x y
     unfolding inverseTouched

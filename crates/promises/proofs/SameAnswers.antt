@@ -2,7 +2,7 @@
 use mathlib.Core.Path.{_≡_, refl, sym, ap, _∙_}
 use mathlib.Core.Bool.{Bool, true, false}
 use mathlib.Core.List.{List}
-use mathlib.Core.Logic.{inl, inr}
+use mathlib.Core.Logic.{_⊎_, inl, inr}
 use Prim.Native.Nat.{ℕ, _+_, _-_, _*_, _<_, _≤_}
 use native.Mathlib.Decide.{ℕ-discrete, decLt}
 use native.Mathlib.Omega.{arith}
@@ -219,12 +219,21 @@ module _ (s t : List ℕ) (r : ℕ) (same : Beside s t r) (there : r < rowsOf s 
         rw known-same (same-rung (reducedKnown s z) _ _ _ (λ known.
         rw (row-same, seconds-same known) (from-distance-same s t r same (distanceOf s z) (outside known) xp)))
 
+  -- the reduced northing lies aside, or 14 refuses it on both sheets
+  abbrev pub Apart : ℤ → Type 0
+  Apart z = Aside (y0Of s) rows r z ⊎ ((reducedKnown s z ≡ false) × (reducedKnown t z ≡ false))
+
+  apart-answers : (xp z : ℤ) → Apart z → fromReduced t xp z ≡ fromReduced s xp z
+  unfolding fromReduced need
+  apart-answers xp z (inl aside) = from-reduced-same z aside xp
+  apart-answers xp z (inr refused) = rw (refused .0, refused .1)
+
   pub inverse-same : (x y : ℤ)
-      → (eastingKnown s (xPrime s x) ≡ true → northingKnown s y ≡ true → Aside (y0Of s) rows r (reducedNorthing s (natAbs (xPrime s x)) y))
+      → (eastingKnown s (xPrime s x) ≡ true → northingKnown s y ≡ true → Apart (reducedNorthing s (natAbs (xPrime s x)) y))
       → inverseOf t x y ≡ inverseOf s x y
   unfolding inverseOf
-  inverse-same x y aside =
+  inverse-same x y apart =
       rw (x-prime-same s t r same x, easting-same s t r same (xPrime s x), northing-same s t r same y)
       (same-rung (eastingKnown s (xPrime s x)) _ _ _ (λ k.
       same-rung (northingKnown s y) _ _ _ (λ l.
-      rw (reduced-same s t r same (natAbs (xPrime s x)) y) (from-reduced-same (reducedNorthing s (natAbs (xPrime s x)) y) (aside k l) (xPrime s x)))))
+      rw (reduced-same s t r same (natAbs (xPrime s x)) y) (apart-answers (xPrime s x) (reducedNorthing s (natAbs (xPrime s x)) y) (apart k l)))))

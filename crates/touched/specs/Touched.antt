@@ -1,12 +1,12 @@
 -- Which points to redo after a correction of one latitude row: whether an accepted correction of the minute's row may change what geographic to plane answers to a geographic
 -- point, or plane to geographic to a plane point. Convergence and scale it never changes. s is the sheet, r the row of the minute, counted from 0. North and west are a latitude and
 -- a west longitude in 0.001″; x and y are in 0.01 ft.
-use mathlib.Core.Bool.{Bool, true, false, _&&_}
+use mathlib.Core.Bool.{Bool, false, _&&_}
 use mathlib.Core.List.{List}
 use Prim.Native.Nat.{ℕ, _+_, _-_}
 use lib.Dec.{ltb}
-use lib.IntN.{ℤ, pos, natAbs, _-ℤ_, _*ℤ_}
-use lib.Signed.{ltZ}
+use lib.IntN.{ℤ, pos, natAbs, _+ℤ_, _-ℤ_, _*ℤ_}
+use lib.Signed.{leZ, ltZ}
 use Rattle.words.specs.Ladder.{need, whereBelow}
 use Rattle.contents.specs.Layout.{latitude, stepOf}
 use Rattle.contents.specs.Entries.{rowsOf, bodyOf}
@@ -44,13 +44,13 @@ forwardTouched s minute north west =
     (nearRow minute north))
 
 -- ---- a plane point, judged by its reduced northing
--- It lies above y0 of the row before, or there is none.
+-- It lies above y0 of the row before. The first row has none: there it is not below the least y0 that a correction can give the row, since "y0 rises by 600,000 to 615,000" to the next.
 unfoldable pub abovePrior : List ℕ → ℕ → ℤ → Bool
-abovePrior s r reduced = whereBelow 0 r (ltZ (y0Of s (r - 1)) reduced) true
+abovePrior s r reduced = whereBelow 0 r (ltZ (y0Of s (r - 1)) reduced) (leZ (y0Of s (r + 1) -ℤ pos 615_000) reduced)
 
--- It lies below y0 of the next row, or there is none.
+-- It lies below y0 of the next row. The last row has none: there it is not above the greatest y0 that a correction can give the row.
 unfoldable pub belowNext : List ℕ → ℕ → ℤ → Bool
-belowNext s r reduced = whereBelow (r + 1) (rowsOf s latitude) (ltZ reduced (y0Of s (r + 1))) true
+belowNext s r reduced = whereBelow (r + 1) (rowsOf s latitude) (ltZ reduced (y0Of s (r + 1))) (leZ reduced (y0Of s (r - 1) +ℤ pos 615_000))
 
 -- What 12 or 13 refuses stays refused. What 14 refuses may not, since a correction of the first row moves the first y0 and one of the last row the last; nor what 11 refuses, since
 -- L is worked from H and a.

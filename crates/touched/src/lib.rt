@@ -62,7 +62,7 @@ fn may_move_plane(s: &[u8], p: Places, minute: i32, latitude: i32, longitude: i3
     near_row(minute, latitude)
 }
 
-// Whether the reduced northing lies above y0 of the row before r, or there is none.
+// Whether the reduced northing lies above y0 of the row before r; of the first row, not below the least y0 that a correction can give it.
 fn above_prior(s: &[u8], p: Places, r: usize, reduced: i64) -> bool
     requires { ⌜ (checkOf (now s) .number ≡ 0) × (p ≡ placesOf (now s)) × (r < rowsOf (now s) latitude) ⌝ }
     ensures { λ t. ⌜ t ≡ abovePrior (now (s .entry)) r reduced ⌝ }
@@ -70,10 +70,10 @@ fn above_prior(s: &[u8], p: Places, r: usize, reduced: i64) -> bool
     if 0 < r {
         return tables::y0_of(s, p, r - 1) < reduced;
     }
-    true
+    tables::y0_of(s, p, r + 1) - 615_000 <= reduced
 }
 
-// Whether the reduced northing lies below y0 of the row after r, or there is none.
+// Whether the reduced northing lies below y0 of the row after r; of the last row, not above the greatest y0 that a correction can give it.
 fn below_next(s: &[u8], p: Places, r: usize, reduced: i64) -> bool
     requires { ⌜ (checkOf (now s) .number ≡ 0) × (p ≡ placesOf (now s)) × (r < rowsOf (now s) latitude) ⌝ }
     ensures { λ t. ⌜ t ≡ belowNext (now (s .entry)) r reduced ⌝ }
@@ -81,7 +81,7 @@ fn below_next(s: &[u8], p: Places, r: usize, reduced: i64) -> bool
     if r + 1 < p.latitude.rows {
         return reduced < tables::y0_of(s, p, r + 1);
     }
-    true
+    reduced <= tables::y0_of(s, p, r - 1) + 615_000
 }
 
 // Whether a correction of row r may change the answer to a plane point.

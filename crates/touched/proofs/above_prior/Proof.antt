@@ -1,9 +1,11 @@
 -- `touched::above_prior` meets its contract. Assumes nothing.
 use mathlib.Core.Path.{_≡_}
+use native.Mathlib.Omega.{arith}
 use mir.Syntax.{w64}
 use mir.Val.{toZ, ofZ}
+use Rattle.figures.proofs.Holds.{held-literal, difference, difference-fits}
 use Rattle.convert.proofs.Bits.{bits-is}
-use Rattle.touched.proofs.Beside.{above-is, none-prior}
+use Rattle.touched.proofs.Beside.{above-is, from-least, two-rows, y0-held}
 use borrow.Author.Needs.{needs}
 use Rattle.touched.proofs.above_prior.Statement.{statement}
 use Rattle.touched.proofs.above_prior.Tie as tie
@@ -12,10 +14,13 @@ returns : tie.Need-returns
 returns c =
     let start = c .before .before .before in
     let same : toZ w64 (ofZ w64 (start .args .reduced)) ≡ start .args .reduced = search needs in
-    above-is _ _ _ _ _ _ (bits-is (c .y0-of .ok)) same (c .before .if1 .taken) (c .y0-of .ensures .0)
+    above-is _ _ _ _ _ same _ (bits-is (c .y0-of .ok)) (c .before .if1 .taken) (c .y0-of .ensures .0)
 
 returns-2 : tie.Need-returns-2
-returns-2 c = none-prior _ _ _ (c .if1 .left)
+returns-2 c =
+    let start = c .before .before .before in
+    let same : toZ w64 (ofZ w64 (start .args .reduced)) ≡ start .args .reduced = search needs in
+    from-least _ _ _ _ _ same (c .before .if1 .left) (difference (y0-held (c .y0-of2 .ok) (c .y0-of2 .ensures)) (held-literal w64 615_000 tt) tt .is)
 
 sub-y0-of : tie.Need-sub-y0-of
 sub-y0-of c = search needs
@@ -23,5 +28,16 @@ sub-y0-of c = search needs
 y0-of-requires : tie.Need-y0-of-requires
 y0-of-requires c κs = search needs
 
+add-y0-of : tie.Need-add-y0-of
+add-y0-of c = search needs
+
+y0-of-requires-2 : tie.Need-y0-of-requires-2
+y0-of-requires-2 c κs = let p = c .before .before .pre in (p .0, p .1, omega (arith, two-rows _ (p .0), c .if1 .left))
+
+sub-result : tie.Need-sub-result
+sub-result c = difference-fits (y0-held (c .y0-of2 .ok) (c .y0-of2 .ensures)) (held-literal w64 615_000 tt) tt
+
 pub above-prior-spec : {M : Type 1} → statement M
-above-prior-spec = tie.close (tie.spec sub-y0-of y0-of-requires returns returns-2)
+above-prior-spec =
+    tie.close
+    (tie.spec sub-y0-of y0-of-requires returns add-y0-of y0-of-requires-2 sub-result returns-2)
