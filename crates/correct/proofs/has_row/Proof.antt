@@ -1,13 +1,14 @@
 -- `correct::has_row` meets its contract. Assumes nothing.
 use mathlib.Core.Path.{_≡_, sym, ap, _∙_}
 use Prim.Native.Nat.{_-_}
-use lib.IntN.{pos}
+use lib.IntN.{ℤ, pos}
 use lib.Signed.{leZ}
 use denote.Ref.{now}
 use mir.Syntax.{w32, w64}
 use mir.Val.{SFits, toZ, ofZ}
 use mir.Facts.{toZ-ofZ}
 use Rattle.figures.proofs.Sizes.{Size}
+use Rattle.rules.specs.Limits.{sameAs}
 use Rattle.correct.specs.Correction.{fromFirstMinute}
 use Rattle.correct.proofs.Place.{none-below, none-above, place-size, by-minute, cast-place, eight-place, own-word}
 use borrow.Author.Needs.{sfits-of}
@@ -42,7 +43,7 @@ returns-3 c =
     let same : toZ w32 (ofZ w32 (start .args .minute)) ≡ start .args .minute = search needs in
     let own : toZ w32 (ofZ w32 (c .before .word .result)) ≡ c .before .word .result = search needs in
     by-minute _ _ _ _ (place (c .before .before .before .before)) (start .pre .0) (c .before .before .before .if1 .left) (above (c .before .before .before) ∙ c .before .before .if2 .left)
-    (c .before .word .result) _ (c .before .word .ensures) (c .same-as .ensures ∙ rw (same, own))
+    (c .before .word .result) _ (c .before .word .ensures) (c .same-as .ensures ∙ ap (λ (x : ℤ). sameAs x (toZ w32 (ofZ w32 (start .args .minute)))) own ∙ ap (sameAs (c .before .word .result)) same)
 
 from-first-minute-requires : tie.Need-from-first-minute-requires
 from-first-minute-requires c κs = search needs
