@@ -2,13 +2,14 @@
 use mathlib.Core.Path.{_≡_, refl, sym, ap, subst, _∙_}
 use mathlib.Core.Bool.{Bool, true, false, _&&_}
 use mathlib.Core.List.{List}
-use mathlib.Core.Logic.{inl, inr}
-use Prim.Native.Nat.{ℕ, _+_, _-_, _*_, _<_}
-use native.Mathlib.Decide.{decLt}
+use mathlib.Core.Logic.{_⊎_, inl, inr}
+use Prim.Native.Nat.{ℕ, _+_, _-_, _*_, _<_, _≤_}
+use native.Mathlib.Decide.{ℕ-discrete, decLt}
 use native.Mathlib.Omega.{arith}
 use borrow.Author.Tests.{leb-true, ltb-false}
 use lib.Dec.{T}
 use lib.IntN.{ℤ, pos, negsuc, natAbs, _+ℤ_, _-ℤ_, _*ℤ_, -ℤ-+ℤ-cancel}
+use lib.ListN.{getD}
 use lib.Signed.{leZ, ltZ}
 use mir.Syntax.{w32}
 use mir.Val.{SFits}
@@ -17,7 +18,7 @@ use Rattle.words.specs.Words.{wordAt}
 use Rattle.words.specs.Ladder.{need, whereBelow}
 use Rattle.words.proofs.Refusals.{past, where-below, where-beyond, is, is-not}
 use Rattle.contents.specs.Layout.{latitude, stepOf}
-use Rattle.contents.specs.Entries.{rowsOf, bodyOf}
+use Rattle.contents.specs.Entries.{startOf, rowsOf, bodyOf}
 use Rattle.contents.specs.Contents.{numberOf, contentsOf}
 use Rattle.rules.specs.declared.Figures.{Figures}
 use Rattle.rows.specs.Rows.{figuresAt}
@@ -40,6 +41,7 @@ use Rattle.touched.specs.Touched.{touch, noTouch, hasMinute, rowNamed, nearRow,
 use Rattle.touched.proofs.Beside.{two-rows}
 use Rattle.promises.specs.Corrections.{Passes, Word, Words, putIn, FarLatitude, Corrects, Afresh, Local, Untouched}
 use Rattle.promises.proofs.WithRow.{body-long, rows-stay, body-stays, latitude-body}
+use Rattle.promises.proofs.OtherBytes.{other-bytes}
 use Rattle.promises.proofs.WholeCheck.{passes-with, must-range, must-before, must-after}
 use Rattle.promises.proofs.Beside.{Beside, latitude-rows, latitude-same, longitude-same, x-prime-same, easting-same, northing-same, y0-row-same}
 use Rattle.promises.proofs.SameAnswers.{Apart, forward-same, inverse-same, grid-same, reduced-same}
@@ -118,6 +120,13 @@ module _ (s : List ℕ) (passes : Passes s) (minute : ℤ) (f : Figures) where
   unfolding correctedOf
   stays h = sym (is-not (correctionOf s minute f) 0 (putIn s minute f) s s h refl)
 
+  bytes-stay : (q : ℕ) → (q < 4 * (startOf s latitude + 8 * (r - 1))) ⊎ (4 * (startOf s latitude + 8 * r + 8) ≤ q) → getD (correctedOf s minute f) q 0 ≡ getD s q 0
+  bytes-stay q far = pick (ℕ-discrete (correctionOf s minute f) 0)
+    where
+      pick : Dec (correctionOf s minute f ≡ 0) → getD (correctedOf s minute f) q 0 ≡ getD s q 0
+      pick (yes e) = ap (λ (u : List ℕ). getD u q 0) (writes e) ∙ other-bytes s z r f q far
+      pick (no h) = ap (λ (u : List ℕ). getD u q 0) (stays h)
+
   only-then : correctionOf s minute f ≡ 0 → Passes (putIn s minute f)
   only-then e = let k = keeps e in passes-with s ok r f (there (k .row)) (k .range) (k .before) (k .after)
 
@@ -137,7 +146,7 @@ module _ (s : List ℕ) (passes : Passes s) (minute : ℤ) (f : Figures) where
       })
 
   pub corrects : Words f → Corrects s minute f
-  corrects words = record { only-then = only-then; always-then = always-then words; no-row = no-row; writes = writes; stays = stays }
+  corrects words = record { only-then = only-then; always-then = always-then words; no-row = no-row; writes = writes; stays = stays; other-bytes = bytes-stay }
 
   -- ---- after a correction that was accepted
   module _ (accepted : correctionOf s minute f ≡ 0) where

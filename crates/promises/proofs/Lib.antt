@@ -6,6 +6,7 @@ pub mod AnswersFit
 pub mod SizesAndSigns
 pub mod WithRow
 pub mod NewRows
+pub mod OtherBytes
 pub mod WholeCheck
 pub mod Beside
 pub mod Stands

@@ -4,11 +4,12 @@ use mathlib.Core.Path.{_≡_}
 use mathlib.Core.Bool.{true, false}
 use mathlib.Core.List.{List}
 use mathlib.Core.Logic.{_⊎_}
-use Prim.Native.Nat.{ℕ, _+_, _-_, _<_, _≤_}
+use Prim.Native.Nat.{ℕ, _+_, _-_, _*_, _<_, _≤_}
 use lib.IntN.{ℤ, pos, negℤ, natAbs, _-ℤ_, _*ℤ_}
+use lib.ListN.{getD}
 use lib.Signed.{leZ}
 use Rattle.contents.specs.Layout.{latitude, stepOf}
-use Rattle.contents.specs.Entries.{rowsOf, bodyOf}
+use Rattle.contents.specs.Entries.{startOf, rowsOf, bodyOf}
 use Rattle.contents.specs.Contents.{verdict}
 use Rattle.rules.specs.declared.Figures.{Figures}
 use Rattle.rows.specs.Rows.{figuresAt, rowAt}
@@ -40,7 +41,7 @@ putIn s minute f = withRow s (rowNamed s minute) f
 abbrev pub FarLatitude : ℤ → ℤ → Type 0
 FarLatitude minute north = stepOf latitude ≤ natAbs (north -ℤ minute *ℤ pos (stepOf latitude))
 
--- The same of a plane point, "judged by its reduced northing": at or below y0 of the row before, or at or above y0 of the row after, where there is one. What 12 or 13 refuses has no
+-- The same of a plane point, judged by its reduced northing: at or below y0 of the row before, or at or above y0 of the row after, where there is one. What 12 or 13 refuses has no
 -- reduced northing, and counts as outside.
 abbrev pub FarNorthing : List ℕ → ℕ → ℤ → Type 0
 FarNorthing s r reduced = ((0 < r) × (leZ reduced (y0Of s (r - 1)) ≡ true)) ⊎ ((r + 1 < rowsOf s latitude) × (leZ (y0Of s (r + 1)) reduced ≡ true))
@@ -59,6 +60,9 @@ pub record Corrects (s : List ℕ) (minute : ℤ) (f : Figures) : Type 0 where
   -- "Accepted, it writes", and "Refused, it writes nothing."
   pub writes : correctionOf s minute f ≡ 0 → correctedOf s minute f ≡ putIn s minute f
   pub stays : (correctionOf s minute f ≡ 0 → ⊥) → correctedOf s minute f ≡ s
+  -- "all other bytes stay": every byte q but those of the minute's row and of the row before it, where there is one.
+  pub other-bytes : (q : ℕ) → (q < 4 * (startOf s latitude + 8 * (rowNamed s minute - 1))) ⊎ (4 * (startOf s latitude + 8 * rowNamed s minute + 8) ≤ q)
+      → getD (correctedOf s minute f) q 0 ≡ getD s q 0
 
 -- ---- after a correction that was accepted
 pub record Afresh (s : List ℕ) (minute : ℤ) (f : Figures) : Type 0 where

@@ -1,0 +1,117 @@
+-- Every byte of the sheet but those of row r and of the row before it stays, whatever the new figures. Assumes nothing.
+use mathlib.Core.Path.{_≡_, sym, ap, _∙_}
+use mathlib.Core.List.{List}
+use mathlib.Core.Logic.{_⊎_, inl, inr}
+use Prim.Native.Nat.{ℕ, _+_, _-_, _*_, _/_, _<_, _≤_}
+use native.Mathlib.Decide.{decLt}
+use native.Mathlib.Omega.{arith}
+use lib.Dec.{lit≤}
+use lib.ListN.{length, drop, getD}
+use lib.Seq.{getD-take, getD-drop}
+use Rattle.words.specs.Ladder.{whereBelow}
+use Rattle.words.specs.Parts.{partOf, putPart}
+use Rattle.words.proofs.Refusals.{where-below, where-beyond}
+use Rattle.words.proofs.Writing.{putWord-keeps}
+use Rattle.words.proofs.PuttingParts.{before-part, after-part, part-put}
+use Rattle.contents.specs.Layout.{latitude}
+use Rattle.contents.specs.Entries.{startOf, rowsOf, bodyOf}
+use Rattle.contents.specs.Contents.{contentsOf}
+use Rattle.contents.proofs.Passing.{body-within, body-length}
+use Rattle.rules.specs.declared.Figures.{Figures}
+use Rattle.rules.specs.declared.Differences.{Differences}
+use Rattle.correct.specs.Correction.{putFigures, putDifferences, workedAt, reworked, rewritten, withRow}
+use Rattle.correct.proofs.Rewritten.{length-rewritten}
+
+-- ---- in the body: byte q lies in a word outside row i
+module _ (b : List ℕ) (i q : ℕ) (far : (q / 4 < 8 * i) ⊎ (8 * i + 8 ≤ q / 4)) where
+  not-in : (k : ℕ) → k < 8 → q / 4 ≡ 8 * i + k → ⊥
+  not-in k h e = by-side far
+    where
+      by-side : (q / 4 < 8 * i) ⊎ (8 * i + 8 ≤ q / 4) → ⊥
+      by-side (inl low) = omega arith
+      by-side (inr high) = omega arith
+
+  figures-far : (f : Figures) → getD (putFigures b i f) q 0 ≡ getD b q 0
+  unfolding putFigures
+  figures-far f =
+      putWord-keeps _ (8 * i + 7) (f .a) q (not-in 7 (omega arith))
+      ∙ putWord-keeps _ (8 * i + 5) (f .v) q (not-in 5 (omega arith))
+      ∙ putWord-keeps _ (8 * i + 3) (f .h) q (not-in 3 (omega arith))
+      ∙ putWord-keeps b (8 * i + 1) (f .y0) q (not-in 1 (omega arith))
+
+  differences-far : (d : Differences) → getD (putDifferences b i d) q 0 ≡ getD b q 0
+  unfolding putDifferences
+  differences-far d =
+      putWord-keeps _ (8 * i + 6) (d .v) q (not-in 6 (omega arith))
+      ∙ putWord-keeps _ (8 * i + 4) (d .h) q (not-in 4 (omega arith))
+      ∙ putWord-keeps b (8 * i + 2) (d .y) q (not-in 2 (omega arith))
+
+  reworked-far : (n : ℕ) → getD (reworked b n i) q 0 ≡ getD b q 0
+  unfolding reworked
+  reworked-far n = differences-far (workedAt b n i)
+
+-- a byte outside rows r − 1 and r
+body-byte : (b : List ℕ) (n r : ℕ) (f : Figures) (q : ℕ) → (q < 32 * (r - 1)) ⊎ (32 * r + 32 ≤ q) → getD (rewritten b n r f) q 0 ≡ getD b q 0
+unfolding rewritten
+body-byte b n r f q far = pick (decLt 0 r)
+  where
+    here : (q < 32 * (r - 1)) ⊎ (32 * r + 32 ≤ q) → (q / 4 < 8 * r) ⊎ (8 * r + 8 ≤ q / 4)
+    here (inl low) = inl (omega arith)
+    here (inr high) = inr (omega arith)
+
+    before : 0 < r → (q < 32 * (r - 1)) ⊎ (32 * r + 32 ≤ q) → (q / 4 < 8 * (r - 1)) ⊎ (8 * (r - 1) + 8 ≤ q / 4)
+    before h (inl low) = inl (omega arith)
+    before h (inr high) = inr (omega arith)
+
+    own-byte : getD (reworked (putFigures b r f) n r) q 0 ≡ getD b q 0
+    own-byte = reworked-far (putFigures b r f) r q (here far) n ∙ figures-far b r q (here far) f
+
+    pick : Dec (0 < r) → getD (whereBelow 0 r (reworked (reworked (putFigures b r f) n r) n (r - 1)) (reworked (putFigures b r f) n r)) q 0 ≡ getD b q 0
+    pick (yes h) =
+        ap (λ (t : List ℕ). getD t q 0) (where-below 0 r (reworked (reworked (putFigures b r f) n r) n (r - 1)) (reworked (putFigures b r f) n r) h)
+        ∙ reworked-far (reworked (putFigures b r f) n r) (r - 1) q (before h far) n
+        ∙ own-byte
+    pick (no h) =
+        ap (λ (t : List ℕ). getD t q 0) (where-beyond 0 r (reworked (reworked (putFigures b r f) n r) n (r - 1)) (reworked (putFigures b r f) n r) (omega arith)) ∙ own-byte
+
+-- ---- in the sheet
+module _ (s : List ℕ) (z : contentsOf s .number ≡ 0) (r : ℕ) (f : Figures) where
+  abbrev a : ℕ
+  a = startOf s latitude
+
+  abbrev n : ℕ
+  n = rowsOf s latitude
+
+  new : List ℕ
+  new = rewritten (bodyOf s latitude) n r f
+
+  within : 4 * (a + n * 8) ≤ length s
+  within = body-within s z latitude (lit≤ tt) (lit≤ tt)
+
+  whole : length new ≡ 4 * (n * 8)
+  unfolding new
+  whole = length-rewritten (bodyOf s latitude) n r f ∙ body-length s z latitude (lit≤ tt) (lit≤ tt)
+
+  pub other-bytes : (q : ℕ) → (q < 4 * (a + 8 * (r - 1))) ⊎ (4 * (a + 8 * r + 8) ≤ q) → getD (withRow s r f) q 0 ≡ getD s q 0
+  unfolding withRow new
+  other-bytes q far = pick (decLt q (4 * a)) (decLt q (4 * (a + n * 8)))
+    where
+      inside : (j : ℕ) → 4 * a + j ≡ q → j < 4 * (n * 8) → getD (putPart s a (n * 8) new) q 0 ≡ getD s q 0
+      inside j e h =
+          let side : (j < 32 * (r - 1)) ⊎ (32 * r + 32 ≤ j) = by-side far in
+          ap (λ (k : ℕ). getD (putPart s a (n * 8) new) k 0) (sym e)
+          ∙ sym (getD-take (4 * (n * 8)) (drop (4 * a) (putPart s a (n * 8) new)) j 0 h ∙ getD-drop (4 * a) (putPart s a (n * 8) new) j 0)
+          ∙ ap (λ (t : List ℕ). getD t j 0) (part-put s new a (n * 8) within whole)
+          ∙ body-byte (bodyOf s latitude) n r f j side
+          ∙ getD-take (4 * (n * 8)) (drop (4 * a) s) j 0 h
+          ∙ getD-drop (4 * a) s j 0
+          ∙ ap (λ (k : ℕ). getD s k 0) e
+        where
+          by-side : (q < 4 * (a + 8 * (r - 1))) ⊎ (4 * (a + 8 * r + 8) ≤ q) → (j < 32 * (r - 1)) ⊎ (32 * r + 32 ≤ j)
+          by-side (inl low) = inl (omega arith)
+          by-side (inr high) = inr (omega arith)
+
+      pick : Dec (q < 4 * a) → Dec (q < 4 * (a + n * 8)) → getD (putPart s a (n * 8) new) q 0 ≡ getD s q 0
+      pick (yes h) k = before-part s new a (n * 8) within whole q h
+      pick (no h) (no k) = after-part s new a (n * 8) within whole q (omega arith)
+      pick (no h) (yes k) = inside (q - 4 * a) (omega arith) (omega arith)
