@@ -3,6 +3,7 @@ use mathlib.Core.Path.{_≡_, refl, sym, ap, subst, _∙_}
 use mathlib.Core.Bool.{Bool, true, false, not}
 use Prim.Native.Nat.{ℕ, zero, suc, _≤_, _<_}
 use native.Mathlib.Nat.{le-refl, le-trans, le-of-lt}
+use native.Mathlib.Omega.{arith}
 use lib.Dec.{T, leb, leb·zero, leb·suc-suc, leb·suc-zero}
 use borrow.Author.Tests.{ltb-true, leb-true, le-leb, lt-leb, not-false}
 use lib.IntN.{ℤ, pos, negsuc, sucℤ, predℤ, suc-pred, natAbs, negℤ, _+ℤ_, _-ℤ_, +ℤ-idr, +ℤ-invr, +ℤ-sucℤ, +ℤ-predℤ, +ℤ-comm, -ℤ-+ℤ-cancel}
@@ -16,6 +17,9 @@ above-of a b e = not-false (ltZ b a) (sym (leZ-not b a) ∙ e)
 
 pub not-above-of : (a b : ℤ) → ltZ b a ≡ true → leZ a b ≡ false
 not-above-of a b e = leZ-not b a ∙ ap not e
+
+pub not-below-of : (a b : ℤ) → ltZ a b ≡ false → leZ b a ≡ true
+not-below-of a b e = leZ-not a b ∙ ap not e
 
 -- ---- an order
 pub leZ-refl : (a : ℤ) → leZ a a ≡ true
@@ -53,6 +57,24 @@ ltZ-weak (negsuc a) (negsuc b) p = le-leb b a (le-of-lt (ltb-true b a p))
 
 pub ltZ-trans : (a b c : ℤ) → ltZ a b ≡ true → ltZ b c ≡ true → ltZ a c ≡ true
 ltZ-trans a b c p q = ltZ-leZ a b c p (ltZ-weak b c q)
+
+-- what is below is not above
+pub ltZ-le : (a b : ℤ) → ltZ a b ≡ true → leZ a b ≡ true
+ltZ-le a b h = pick (leZ a b) refl
+  where
+    pick : (t : Bool) → leZ a b ≡ t → leZ a b ≡ true
+    pick true e = e
+    pick false e = absurd (subst T (sym (leZ-refl a) ∙ not-above-of a a (ltZ-trans a b a h (above-of a b e))) tt)
+
+-- not both; and where neither is above, they are equal
+pub not-both : (a b : ℤ) → leZ a b ≡ true → ltZ b a ≡ true → ⊥
+not-both a b h l = subst T (sym h ∙ not-above-of a b l) tt
+
+pub leZ-equal : (a b : ℤ) → leZ a b ≡ true → leZ b a ≡ true → a ≡ b
+leZ-equal (pos a) (pos b) h l = ap pos (omega (arith, leb-true a b h, leb-true b a l))
+leZ-equal (pos a) (negsuc b) h l = absurd (subst T (sym h) tt)
+leZ-equal (negsuc a) (pos b) h l = absurd (subst T (sym l) tt)
+leZ-equal (negsuc a) (negsuc b) h l = ap negsuc (omega (arith, leb-true b a h, leb-true a b l))
 
 -- ---- one number added to both sides
 leZ-up : (a b : ℤ) → leZ (sucℤ a) (sucℤ b) ≡ leZ a b

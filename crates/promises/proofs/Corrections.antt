@@ -13,7 +13,7 @@ use lib.ListN.{getD}
 use lib.Signed.{leZ, ltZ}
 use mir.Syntax.{w32}
 use mir.Val.{SFits}
-use Rattle.figures.proofs.Order.{above-of, not-above-of, ltZ-leZ, leZ-ltZ, leZ-shift}
+use Rattle.figures.proofs.Order.{above-of, not-above-of, not-below-of, ltZ-leZ, leZ-ltZ, leZ-shift}
 use Rattle.words.specs.Words.{wordAt}
 use Rattle.words.specs.Ladder.{need, whereBelow}
 use Rattle.words.proofs.Refusals.{past, where-below, where-beyond, is, is-not}
@@ -54,14 +54,6 @@ word-fits (negsuc n) h = record { sfits = omega (arith, leb-true n 2_147_483_647
 
 words-fit : (f : Figures) → Words f → FiguresFit f
 words-fit f h = record { y0 = word-fits (f .y0) (h .0); h = word-fits (f .h) (h .1); v = word-fits (f .v) (h .2); a = word-fits (f .a) (h .3) }
-
--- what is not below is not less
-not-less : (a c : ℤ) → ltZ a c ≡ false → leZ c a ≡ true
-not-less a c h = pick (leZ c a) refl
-  where
-    pick : (p : Bool) → leZ c a ≡ p → leZ c a ≡ true
-    pick true e = e
-    pick false e = absurd (subst T (sym (above-of c a e) ∙ h) tt)
 
 -- ---- how far the first y0 and the last of a sheet that passes can lie from their neighbours
 module _ (s : List ℕ) (ok : checkOf s .number ≡ 0) (z : ℤ) where
@@ -249,7 +241,7 @@ module _ (s : List ℕ) (passes : Passes s) (minute : ℤ) (f : Figures) where
     prior-stays reduced e = pick (decLt 0 r)
       where
         pick : Dec (0 < r) → Stays reduced
-        pick (yes h) = inl (inl (h, not-less (y0Of s (r - 1)) reduced (sym (where-below 0 r (ltZ (y0Of s (r - 1)) reduced) (leZ (y0Of s (r + 1) -ℤ pos 615_000) reduced) h) ∙ e)))
+        pick (yes h) = inl (inl (h, not-below-of (y0Of s (r - 1)) reduced (sym (where-below 0 r (ltZ (y0Of s (r - 1)) reduced) (leZ (y0Of s (r + 1) -ℤ pos 615_000) reduced) h) ∙ e)))
         pick (no h) =
             let first : r ≡ 0 = omega arith in
             let below = sym (where-beyond 0 r (ltZ (y0Of s (r - 1)) reduced) (leZ (y0Of s (r + 1) -ℤ pos 615_000) reduced) (omega arith)) ∙ e in
@@ -261,7 +253,7 @@ module _ (s : List ℕ) (passes : Passes s) (minute : ℤ) (f : Figures) where
       where
         pick : Dec (r + 1 < n) → Stays reduced
         pick (yes h) =
-            inl (inr (h, not-less reduced (y0Of s (r + 1)) (sym (where-below (r + 1) n (ltZ reduced (y0Of s (r + 1))) (leZ reduced (y0Of s (r - 1) +ℤ pos 615_000)) h) ∙ e)))
+            inl (inr (h, not-below-of reduced (y0Of s (r + 1)) (sym (where-below (r + 1) n (ltZ reduced (y0Of s (r + 1))) (leZ reduced (y0Of s (r - 1) +ℤ pos 615_000)) h) ∙ e)))
         pick (no h) =
             let last : r ≡ n - 1 = omega (arith, there has) in
             let before : r - 1 ≡ n - 2 = omega arith in

@@ -5,22 +5,20 @@ use mathlib.Core.Logic.{_⊎_, inl, inr}
 use Prim.Native.Nat.{ℕ, _+_, _-_, _*_, _/_, _<_, _≤_}
 use native.Mathlib.Decide.{decLt}
 use native.Mathlib.Omega.{arith}
-use lib.Dec.{lit≤}
-use lib.ListN.{length, drop, getD}
+use lib.ListN.{drop, getD}
 use lib.Seq.{getD-take, getD-drop}
 use Rattle.words.specs.Ladder.{whereBelow}
-use Rattle.words.specs.Parts.{partOf, putPart}
+use Rattle.words.specs.Parts.{putPart}
 use Rattle.words.proofs.Refusals.{where-below, where-beyond}
 use Rattle.words.proofs.Writing.{putWord-keeps}
 use Rattle.words.proofs.PuttingParts.{before-part, after-part, part-put}
 use Rattle.contents.specs.Layout.{latitude}
 use Rattle.contents.specs.Entries.{startOf, rowsOf, bodyOf}
 use Rattle.contents.specs.Contents.{contentsOf}
-use Rattle.contents.proofs.Passing.{body-within, body-length}
 use Rattle.rules.specs.declared.Figures.{Figures}
 use Rattle.rules.specs.declared.Differences.{Differences}
 use Rattle.correct.specs.Correction.{putFigures, putDifferences, workedAt, reworked, rewritten, withRow}
-use Rattle.correct.proofs.Rewritten.{length-rewritten}
+use Rattle.promises.proofs.WithRow.{within, whole}
 
 -- ---- in the body: byte q lies in a word outside row i
 module _ (b : List ℕ) (i q : ℕ) (far : (q / 4 < 8 * i) ⊎ (8 * i + 8 ≤ q / 4)) where
@@ -82,26 +80,22 @@ module _ (s : List ℕ) (z : contentsOf s .number ≡ 0) (r : ℕ) (f : Figures)
   abbrev n : ℕ
   n = rowsOf s latitude
 
-  new : List ℕ
+  abbrev new : List ℕ
   new = rewritten (bodyOf s latitude) n r f
 
-  within : 4 * (a + n * 8) ≤ length s
-  within = body-within s z latitude (lit≤ tt) (lit≤ tt)
-
-  whole : length new ≡ 4 * (n * 8)
-  unfolding new
-  whole = length-rewritten (bodyOf s latitude) n r f ∙ body-length s z latitude (lit≤ tt) (lit≤ tt)
+  abbrev put : List ℕ
+  put = putPart s a (n * 8) new
 
   pub other-bytes : (q : ℕ) → (q < 4 * (a + 8 * (r - 1))) ⊎ (4 * (a + 8 * r + 8) ≤ q) → getD (withRow s r f) q 0 ≡ getD s q 0
-  unfolding withRow new
+  unfolding withRow
   other-bytes q far = pick (decLt q (4 * a)) (decLt q (4 * (a + n * 8)))
     where
-      inside : (j : ℕ) → 4 * a + j ≡ q → j < 4 * (n * 8) → getD (putPart s a (n * 8) new) q 0 ≡ getD s q 0
+      inside : (j : ℕ) → 4 * a + j ≡ q → j < 4 * (n * 8) → getD (put) q 0 ≡ getD s q 0
       inside j e h =
           let side : (j < 32 * (r - 1)) ⊎ (32 * r + 32 ≤ j) = by-side far in
-          ap (λ (k : ℕ). getD (putPart s a (n * 8) new) k 0) (sym e)
-          ∙ sym (getD-take (4 * (n * 8)) (drop (4 * a) (putPart s a (n * 8) new)) j 0 h ∙ getD-drop (4 * a) (putPart s a (n * 8) new) j 0)
-          ∙ ap (λ (t : List ℕ). getD t j 0) (part-put s new a (n * 8) within whole)
+          ap (λ (k : ℕ). getD (put) k 0) (sym e)
+          ∙ sym (getD-take (4 * (n * 8)) (drop (4 * a) (put)) j 0 h ∙ getD-drop (4 * a) (put) j 0)
+          ∙ ap (λ (t : List ℕ). getD t j 0) (part-put s new a (n * 8) (within s z r f) (whole s z r f))
           ∙ body-byte (bodyOf s latitude) n r f j side
           ∙ getD-take (4 * (n * 8)) (drop (4 * a) s) j 0 h
           ∙ getD-drop (4 * a) s j 0
@@ -111,7 +105,7 @@ module _ (s : List ℕ) (z : contentsOf s .number ≡ 0) (r : ℕ) (f : Figures)
           by-side (inl low) = inl (omega arith)
           by-side (inr high) = inr (omega arith)
 
-      pick : Dec (q < 4 * a) → Dec (q < 4 * (a + n * 8)) → getD (putPart s a (n * 8) new) q 0 ≡ getD s q 0
-      pick (yes h) k = before-part s new a (n * 8) within whole q h
-      pick (no h) (no k) = after-part s new a (n * 8) within whole q (omega arith)
+      pick : Dec (q < 4 * a) → Dec (q < 4 * (a + n * 8)) → getD (put) q 0 ≡ getD s q 0
+      pick (yes h) k = before-part s new a (n * 8) (within s z r f) (whole s z r f) q h
+      pick (no h) (no k) = after-part s new a (n * 8) (within s z r f) (whole s z r f) q (omega arith)
       pick (no h) (yes k) = inside (q - 4 * a) (omega arith) (omega arith)

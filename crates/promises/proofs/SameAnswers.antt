@@ -11,6 +11,7 @@ use lib.IntN.{ℤ, pos, natAbs, _-ℤ_, +ℤ-invr}
 use lib.Signed.{leZ}
 use Rattle.figures.specs.Nearest.{nearestSize}
 use Rattle.figures.specs.Steps.{seconds}
+use Rattle.figures.proofs.Order.{leZ-equal}
 use Rattle.figures.proofs.Rounding.{nearestSize-most}
 use Rattle.words.specs.Ladder.{need, whereBelow}
 use Rattle.words.proofs.Refusals.{where-below, where-beyond}
@@ -27,7 +28,7 @@ use Rattle.convert.specs.Forward.{xSize, xOf, yOf, planeAt, forwardOf}
 use Rattle.convert.specs.Inverse.{reducedNorthing, rowOf, secondsPast, distanceOf, approximateOf, sizeOf, longitudeOf, geographicAt, fromDistance, fromReduced, inverseOf}
 use Rattle.convert.specs.Grid.{convergenceAt, gridAt, gridOf}
 use Rattle.convert.proofs.Distances.{row-not-above, past-gap}
-use Rattle.promises.proofs.Stands.{equal, Aside, stands, stands-last, one-row, row-before, row-after}
+use Rattle.promises.proofs.Stands.{Aside, stands, stands-last, one-row, row-before, row-after}
 use Rattle.promises.proofs.Beside.{Beside, Outside, latitude-rows, central-same, false-same, b-same, c-same, p-same, m-same, d-same, k-same, first-same, from-first-same, latitude-same, l-same, size-same, longitude-same, x-prime-same, easting-same, scale-same, northing-same, y0-row-same, y0-same, h-same, v-same, a-same}
 
 -- a refusal that comes first in both, or what comes after it in both
@@ -186,7 +187,7 @@ module _ (s t : List ℕ) (r : ℕ) (same : Beside s t r) (there : r < rowsOf s 
       touching : rowOf s z + 1 ≡ r → leZ z (y0Of s (r - 1)) ≡ true → (secondsPast t z (rowOf s z) ≡ 0) × (secondsPast s z (rowOf s z) ≡ 0)
       touching e low =
           let at : r - 1 ≡ rowOf s z = omega arith in
-          let is : z ≡ y0Of s (rowOf s z) = equal z (y0Of s (rowOf s z)) (rw at at low) at-row in
+          let is : z ≡ y0Of s (rowOf s z) = leZ-equal z (y0Of s (rowOf s z)) (rw at at low) at-row in
           let is′ : z ≡ y0Of t (rowOf t z) = rw (row-same, y0-row-same s t r same (rowOf s z) (λ q. omega arith)) is in
           (rw row-same at (none-past t ok′ z known′ is′), none-past s ok z known is)
 

@@ -1,37 +1,17 @@
 -- Two rising columns that differ in row r alone: a number at or below row r − 1's figure, or at or above row r + 1's, stands alike to every row of both. Assumes nothing.
-use mathlib.Core.Path.{_≡_, refl, sym, ap, subst, _∙_}
-use mathlib.Core.Bool.{Bool, true, false}
+use mathlib.Core.Path.{_≡_, refl, sym, ap, _∙_}
+use mathlib.Core.Bool.{true}
 use mathlib.Core.Logic.{_⊎_, inl, inr}
 use Prim.Native.Nat.{ℕ, zero, suc, _+_, _-_, _<_, _≤_}
 use native.Mathlib.Nat.{add-zero}
 use native.Mathlib.Decide.{ℕ-discrete, decLt}
 use native.Mathlib.Omega.{arith}
-use borrow.Author.Tests.{leb-true}
-use lib.Dec.{T}
-use lib.IntN.{ℤ, pos, negsuc}
+use lib.IntN.{ℤ}
 use lib.Signed.{leZ, ltZ}
-use Rattle.figures.proofs.Order.{leZ-refl, leZ-trans, ltZ-leZ, leZ-ltZ, ltZ-trans, above-of, not-above-of}
+use Rattle.figures.proofs.Order.{leZ-refl, leZ-trans, ltZ-leZ, leZ-ltZ, ltZ-le, not-above-of, not-both}
 use Rattle.reading.specs.Rows.{lastNotAbove, Rising}
 use Rattle.reading.proofs.Local.{same-row}
 use Rattle.reading.proofs.LastRow.{last-below, last-not-above, later-above}
-
--- ---- order
-less-le : (a b : ℤ) → ltZ a b ≡ true → leZ a b ≡ true
-less-le a b h = pick (leZ a b) refl
-  where
-    pick : (t : Bool) → leZ a b ≡ t → leZ a b ≡ true
-    pick true e = e
-    pick false e = absurd (subst T (sym (leZ-refl a) ∙ not-above-of a a (ltZ-trans a b a h (above-of a b e))) tt)
-
--- not both
-pub never : (a b : ℤ) → leZ a b ≡ true → ltZ b a ≡ true → ⊥
-never a b h l = subst T (sym h ∙ not-above-of a b l) tt
-
-pub equal : (a b : ℤ) → leZ a b ≡ true → leZ b a ≡ true → a ≡ b
-equal (pos a) (pos b) h l = ap pos (omega (arith, leb-true a b h, leb-true b a l))
-equal (pos a) (negsuc b) h l = absurd (subst T (sym h) tt)
-equal (negsuc a) (pos b) h l = absurd (subst T (sym l) tt)
-equal (negsuc a) (negsuc b) h l = ap negsuc (omega (arith, leb-true b a h, leb-true a b l))
 
 -- a later row is not below
 later : (f : ℕ → ℤ) (n : ℕ) → Rising f n → (i d : ℕ) → i + d < n → leZ (f i) (f (i + d)) ≡ true
@@ -39,7 +19,7 @@ unfolding Rising
 later f n up i zero h = rw add-zero (leZ-refl (f i))
 later f n up i (suc d) h =
     let next : i + suc d ≡ i + d + 1 = omega arith in
-    rw next (leZ-trans (f i) (f (i + d)) (f (i + d + 1)) (later f n up i d (omega arith)) (less-le (f (i + d)) (f (i + d + 1)) (up (i + d) (omega arith))))
+    rw next (leZ-trans (f i) (f (i + d)) (f (i + d + 1)) (later f n up i d (omega arith)) (ltZ-le (f (i + d)) (f (i + d + 1)) (up (i + d) (omega arith))))
 
 -- ---- the two columns
 -- z is at or below row r − 1's figure, or at or above row r + 1's
@@ -56,7 +36,7 @@ module _ (f g : ℕ → ℤ) (n r : ℕ) (there : r < n) (up : Rising f n) (up�
 
   row-below : (h : ℕ → ℤ) → Rising h n → r + 1 < n → leZ (h (r + 1)) z ≡ true → leZ (h r) z ≡ true
   unfolding Rising
-  row-below h rising p l = less-le (h r) z (ltZ-leZ (h r) (h (r + 1)) z (rising r p) l)
+  row-below h rising p l = ltZ-le (h r) z (ltZ-leZ (h r) (h (r + 1)) z (rising r p) l)
 
   before : 0 < r → g (r - 1) ≡ f (r - 1)
   before p = same (r - 1) (λ e. omega arith)
@@ -81,7 +61,7 @@ module _ (f g : ℕ → ℤ) (n r : ℕ) (there : r < n) (up : Rising f n) (up�
       pick : Dec (n - 1 ≡ r) → Aside f n r z → leZ z (g (n - 1)) ≡ leZ z (f (n - 1))
       pick (no other) side = ap (leZ z) (same (n - 1) other)
       pick (yes e) (inl low) =
-          rw e (less-le z (g r) (row-above g up′ (low .0) (rw (before (low .0)) (low .1))) ∙ sym (less-le z (f r) (row-above f up (low .0) (low .1))))
+          rw e (ltZ-le z (g r) (row-above g up′ (low .0) (rw (before (low .0)) (low .1))) ∙ sym (ltZ-le z (f r) (row-above f up (low .0) (low .1))))
       pick (yes e) (inr high) = absurd (omega (arith, high .0))
 
   -- so z has one row in both
@@ -99,11 +79,11 @@ module _ (f g : ℕ → ℤ) (n r : ℕ) (there : r < n) (up : Rising f n) (up�
           by-order (yes p) = p
           by-order (no p) =
               let on : r + (i - r) ≡ i = omega arith in
-              absurd (never (f r) z (leZ-trans (f r) (f i) z (rw on at (later f n up r (i - r) (omega arith))) l) (row-above f up (low .0) (low .1)))
+              absurd (not-both (f r) z (leZ-trans (f r) (f i) z (rw on at (later f n up r (i - r) (omega arith))) l) (row-above f up (low .0) (low .1)))
 
   pub row-after : (high : (r + 1 < n) × (leZ (f (r + 1)) z ≡ true)) → r + 1 ≤ lastNotAbove f n z
   row-after high = pick (decLt (lastNotAbove f n z) (r + 1))
     where
       pick : Dec (lastNotAbove f n z < r + 1) → r + 1 ≤ lastNotAbove f n z
-      pick (yes p) = absurd (never (f (r + 1)) z (high .1) (later-above f z n (r + 1) (high .0) p))
+      pick (yes p) = absurd (not-both (f (r + 1)) z (high .1) (later-above f z n (r + 1) (high .0) p))
       pick (no p) = omega arith

@@ -30,26 +30,25 @@ module _ (s : List ℕ) (z : contentsOf s .number ≡ 0) (r : ℕ) (f : Figures)
   abbrev a : ℕ
   a = startOf s latitude
 
-  new : List ℕ
+  abbrev new : List ℕ
   new = rewritten b n r f
 
-  within : 4 * (a + n * 8) ≤ length s
+  pub within : 4 * (a + n * 8) ≤ length s
   within = body-within s z latitude (lit≤ tt) (lit≤ tt)
 
   pub body-long : length b ≡ 4 * (n * 8)
   body-long = body-length s z latitude (lit≤ tt) (lit≤ tt)
 
-  whole : length new ≡ 4 * (n * 8)
-  unfolding new
+  pub whole : length new ≡ 4 * (n * 8)
   whole = length-rewritten b n r f ∙ body-long
 
   pub length-stays : length (withRow s r f) ≡ length s
-  unfolding withRow new
+  unfolding withRow
   length-stays = length-putPart s new a (n * 8) within whole
 
   -- ---- the contents
   word-stays : (i : ℕ) → i < firstBody → unsignedAt (withRow s r f) i ≡ unsignedAt s i
-  unfolding withRow new
+  unfolding withRow
   word-stays i h = word-before s new a (n * 8) within whole i (le-trans h (body-after s z latitude (lit≤ tt) (lit≤ tt)))
 
   pub contents-stay : contentsOf (withRow s r f) ≡ contentsOf s
@@ -67,7 +66,7 @@ module _ (s : List ℕ) (z : contentsOf s .number ≡ 0) (r : ℕ) (f : Figures)
 
     -- ---- every other body
     pub body-stays : (kind ≡ latitude → ⊥) → bodyOf (withRow s r f) kind ≡ bodyOf s kind
-    unfolding withRow new
+    unfolding withRow
     body-stays other = body-is ∙ by-side (bodies-apart s z kind latitude l h (lit≤ tt) (lit≤ tt) other)
       where
         by-side : (startOf s kind + rowsOf s kind * widthOf kind ≤ a) ⊎ (a + n * 8 ≤ startOf s kind)
@@ -77,5 +76,5 @@ module _ (s : List ℕ) (z : contentsOf s .number ≡ 0) (r : ℕ) (f : Figures)
 
   -- ---- the latitude body
   pub latitude-body : bodyOf (withRow s r f) latitude ≡ rewritten b n r f
-  unfolding withRow new
+  unfolding withRow
   latitude-body = body-is latitude (lit≤ tt) (lit≤ tt) ∙ part-put s new a (n * 8) within whole
