@@ -44,11 +44,11 @@ forwardTouched s minute north west =
     (nearRow minute north))
 
 -- ---- a plane point, judged by its reduced northing
--- It lies above y0 of the row before. The first row has none: there it is not below the least y0 that a correction can give the row, since "y0 rises by 600,000 to 615,000" to the next.
+-- It lies above y0 of the row before. The first row has none: there it is not below the least y0 that the bound with the next row allows, "y0 rises by 600,000 to 615,000".
 unfoldable pub abovePrior : List ℕ → ℕ → ℤ → Bool
 abovePrior s r reduced = whereBelow 0 r (ltZ (y0Of s (r - 1)) reduced) (leZ (y0Of s (r + 1) -ℤ pos 615_000) reduced)
 
--- It lies below y0 of the next row. The last row has none: there it is not above the greatest y0 that a correction can give the row.
+-- It lies below y0 of the next row. The last row has none: there it is not above the greatest y0 that the bound with the row before allows.
 unfoldable pub belowNext : List ℕ → ℕ → ℤ → Bool
 belowNext s r reduced = whereBelow (r + 1) (rowsOf s latitude) (ltZ reduced (y0Of s (r + 1))) (leZ reduced (y0Of s (r - 1) +ℤ pos 615_000))
 

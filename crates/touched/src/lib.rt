@@ -62,7 +62,7 @@ fn may_move_plane(s: &[u8], p: Places, minute: i32, latitude: i32, longitude: i3
     near_row(minute, latitude)
 }
 
-// Whether the reduced northing lies above y0 of the row before r; of the first row, not below the least y0 that a correction can give it.
+// Whether the reduced northing lies above y0 of the row before r; of the first row, not below the least y0 that its bound allows.
 fn above_prior(s: &[u8], p: Places, r: usize, reduced: i64) -> bool
     requires { ⌜ (checkOf (now s) .number ≡ 0) × (p ≡ placesOf (now s)) × (r < rowsOf (now s) latitude) ⌝ }
     ensures { λ t. ⌜ t ≡ abovePrior (now (s .entry)) r reduced ⌝ }
@@ -73,7 +73,7 @@ fn above_prior(s: &[u8], p: Places, r: usize, reduced: i64) -> bool
     tables::y0_of(s, p, r + 1) - 615_000 <= reduced
 }
 
-// Whether the reduced northing lies below y0 of the row after r; of the last row, not above the greatest y0 that a correction can give it.
+// Whether the reduced northing lies below y0 of the row after r; of the last row, not above the greatest y0 that its bound allows.
 fn below_next(s: &[u8], p: Places, r: usize, reduced: i64) -> bool
     requires { ⌜ (checkOf (now s) .number ≡ 0) × (p ≡ placesOf (now s)) × (r < rowsOf (now s) latitude) ⌝ }
     ensures { λ t. ⌜ t ≡ belowNext (now (s .entry)) r reduced ⌝ }

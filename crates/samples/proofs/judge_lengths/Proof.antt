@@ -6,10 +6,10 @@ use Rattle.samples.proofs.judge_lengths.Statement.{statement}
 use Rattle.samples.proofs.judge_lengths.Tie as tie
 
 abbrev Inv-loop : tie.InvT-loop
-Inv-loop sheet lengths lines k₀ t6 k = k ≤ length lengths
+Inv-loop sheet lengths corrections lines k₀ t7 k = k ≤ length lengths
 
 abbrev μ-loop : tie.MeasureT-loop
-μ-loop sheet lengths lines k₀ t6 k = length lengths - k
+μ-loop sheet lengths corrections lines k₀ t7 k = length lengths - k
 
 returns : tie.Need-returns Inv-loop μ-loop
 returns c = search needs
@@ -47,8 +47,8 @@ check-requires c κs = search needs
 print-verdict-requires : tie.Need-print-verdict-requires Inv-loop μ-loop
 print-verdict-requires c κs = search needs
 
-convert-each-requires : tie.Need-convert-each-requires Inv-loop μ-loop
-convert-each-requires c κs = search needs
+answer-each-requires : tie.Need-answer-each-requires Inv-loop μ-loop
+answer-each-requires c κs = search needs
 
 add-k : tie.Need-add-k Inv-loop μ-loop
 add-k c = search needs
@@ -76,7 +76,7 @@ judge-lengths-spec =
     part-check-end
     check-requires
     print-verdict-requires
-    convert-each-requires
+    answer-each-requires
     add-k
     loop-less
     loop-again

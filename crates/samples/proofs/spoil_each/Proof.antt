@@ -7,10 +7,10 @@ use Rattle.samples.proofs.spoil_each.Statement.{statement}
 use Rattle.samples.proofs.spoil_each.Tie as tie
 
 abbrev Inv-loop : tie.InvT-loop
-Inv-loop sheet₀ n words values lines k₀ sheet k = (k ≤ length words) × (length sheet ≡ length sheet₀)
+Inv-loop sheet₀ n words values corrections lines k₀ sheet k = (k ≤ length words) × (length sheet ≡ length sheet₀)
 
 abbrev μ-loop : tie.MeasureT-loop
-μ-loop sheet₀ n words values lines k₀ sheet k = length words - k
+μ-loop sheet₀ n words values corrections lines k₀ sheet k = length words - k
 
 returns : tie.Need-returns Inv-loop μ-loop
 returns c = search needs
