@@ -91,3 +91,12 @@ pub record Untouched (s : List ℕ) (minute : ℤ) (f : Figures) : Type 0 where
 pub record Named (s : List ℕ) (r : ℕ) : Type 0 where
   pub has : hasMinute s (rowAt (bodyOf s latitude) r .minute) ≡ true
   pub row : rowNamed s (rowAt (bodyOf s latitude) r .minute) ≡ r
+
+-- ---- demand 3: of every sheet that passes, every minute and all figures of 32 bits
+abbrev pub Demand3 : Type 0
+Demand3 =
+    (s : List ℕ) → Passes s → (minute : ℤ) (f : Figures) → Words f
+    → Corrects s minute f × (correctionOf s minute f ≡ 0 → Afresh s minute f × Local s minute f × Untouched s minute f)
+
+abbrev pub EachRow : Type 0
+EachRow = (s : List ℕ) → Passes s → (r : ℕ) → r < rowsOf s latitude → Named s r
