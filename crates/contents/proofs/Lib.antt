@@ -5,7 +5,5 @@ pub mod Search
 pub mod Spans
 pub mod EachKind
 pub mod Passing
-pub mod SameContents
-pub mod Apart
 pub mod OfFault
 pub mod ByTable

@@ -40,12 +40,12 @@ use Rattle.correct.proofs.Judged.{Kept, zero-keeps, kept-zero, number-is}
 use Rattle.touched.specs.Touched.{touch, noTouch, hasMinute, rowNamed, nearRow, forwardTouched, abovePrior, belowNext, inverseTouched, geographicTouched, planeTouched}
 use Rattle.touched.proofs.Beside.{two-rows}
 use Rattle.promises.specs.Corrections.{Passes, Word, Words, putIn, FarLatitude, Corrects, Afresh, Local, Untouched, Demand3, EachRow}
-use Rattle.promises.proofs.WithRow.{body-long, rows-stay, body-stays, latitude-body}
-use Rattle.promises.proofs.OtherBytes.{other-bytes}
-use Rattle.promises.proofs.WholeCheck.{passes-with, must-range, must-before, must-after}
-use Rattle.promises.proofs.Beside.{Beside, latitude-rows, latitude-same, longitude-same, x-prime-same, easting-same, northing-same, y0-row-same}
-use Rattle.promises.proofs.SameAnswers.{Apart, forward-same, inverse-same, grid-same, reduced-same}
-use Rattle.promises.proofs.Minutes.{each-named, far-outside}
+use Rattle.corrected.proofs.WithRow.{body-long, rows-stay, body-stays, latitude-body}
+use Rattle.corrected.proofs.OtherBytes.{other-bytes}
+use Rattle.corrected.proofs.WholeCheck.{passes-with, must-range, must-before, must-after}
+use Rattle.corrected.proofs.Beside.{Beside, latitude-rows, latitude-same, longitude-same, x-prime-same, easting-same, northing-same, y0-row-same}
+use Rattle.corrected.proofs.SameAnswers.{Apart, forward-same, inverse-same, grid-same, reduced-same}
+use Rattle.corrected.proofs.Minutes.{each-named, far-outside}
 
 -- ---- figures of 32 bits are words
 word-fits : (z : ℤ) → Word z → SFits w32 z
@@ -353,4 +353,4 @@ pub demand-3 : Demand3
 demand-3 s passes minute f words = (corrects s passes minute f words, λ e. (afresh s passes minute f e, locally s passes minute f e, untouched s passes minute f e))
 
 pub each-row : EachRow
-each-row s passes r there = each-named s (ap numberOf passes) r there
+each-row s passes r there = let e = each-named s (ap numberOf passes) r there in record { has = e .0; row = e .1 }

@@ -28,8 +28,8 @@ use Rattle.convert.specs.Forward.{xSize, xOf, yOf, planeAt, forwardOf}
 use Rattle.convert.specs.Inverse.{reducedNorthing, rowOf, secondsPast, distanceOf, approximateOf, sizeOf, longitudeOf, geographicAt, fromDistance, fromReduced, inverseOf}
 use Rattle.convert.specs.Grid.{convergenceAt, gridAt, gridOf}
 use Rattle.convert.proofs.Distances.{row-not-above, past-gap}
-use Rattle.promises.proofs.Stands.{Aside, stands, stands-last, one-row, row-before, row-after}
-use Rattle.promises.proofs.Beside.{Beside, Outside, latitude-rows, central-same, false-same, b-same, c-same, p-same, m-same, d-same, k-same, first-same, from-first-same, latitude-same, l-same, size-same, longitude-same, x-prime-same, easting-same, scale-same, northing-same, y0-row-same, y0-same, h-same, v-same, a-same}
+use Rattle.corrected.proofs.Stands.{Aside, stands, stands-last, one-row, row-before, row-after}
+use Rattle.corrected.proofs.Beside.{Beside, Outside, latitude-rows, central-same, false-same, b-same, c-same, p-same, m-same, d-same, k-same, first-same, from-first-same, latitude-same, l-same, size-same, longitude-same, x-prime-same, easting-same, scale-same, northing-same, y0-row-same, y0-same, h-same, v-same, a-same}
 
 -- a refusal that comes first in both, or what comes after it in both
 pub same-rung : {A : Type 0} (p : Bool) (x a b : A) → (p ≡ true → a ≡ b) → need p x a ≡ need p x b

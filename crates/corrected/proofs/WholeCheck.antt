@@ -21,8 +21,8 @@ use Rattle.bodies.proofs.Sound.{passes-sound, sound-passes, latitude-rows}
 use Rattle.tables.proofs.Parts.{contents-none}
 use Rattle.correct.specs.Correction.{boundBefore, boundAfter, rewritten, withRow}
 use Rattle.correct.proofs.RowWords.{FiguresFit}
-use Rattle.promises.proofs.WithRow.{body-long, contents-stay, rows-stay, body-stays, latitude-body}
-use Rattle.promises.proofs.NewRows.{new-rows, range-kept, before-kept, after-kept}
+use Rattle.corrected.proofs.WithRow.{body-long, contents-stay, rows-stay, body-stays, latitude-body}
+use Rattle.corrected.proofs.NewRows.{new-rows, range-kept, before-kept, after-kept}
 
 module _ (s : List ℕ) (ok : checkOf s .number ≡ 0) (r : ℕ) (f : Figures) (there : r < rowsOf s latitude) where
   abbrev b : List ℕ

@@ -18,7 +18,7 @@ use Rattle.contents.specs.Contents.{contentsOf}
 use Rattle.rules.specs.declared.Figures.{Figures}
 use Rattle.rules.specs.declared.Differences.{Differences}
 use Rattle.correct.specs.Correction.{putFigures, putDifferences, workedAt, reworked, rewritten, withRow}
-use Rattle.promises.proofs.WithRow.{within, whole}
+use Rattle.corrected.proofs.WithRow.{within, whole}
 
 -- ---- in the body: byte q lies in a word outside row i
 module _ (b : List ℕ) (i q : ℕ) (far : (q / 4 < 8 * i) ⊎ (8 * i + 8 ≤ q / 4)) where

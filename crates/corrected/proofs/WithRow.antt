@@ -14,8 +14,8 @@ use Rattle.contents.specs.Layout.{latitude, lastKind, firstBody, widthOf}
 use Rattle.contents.specs.Entries.{startOf, rowsOf, bodyOf}
 use Rattle.contents.specs.Contents.{contentsOf}
 use Rattle.contents.proofs.Passing.{its-entry, body-after, body-within, body-length}
-use Rattle.contents.proofs.SameContents.{same-contents, start-same, rows-same}
-use Rattle.contents.proofs.Apart.{bodies-apart}
+use Rattle.corrected.proofs.SameContents.{same-contents, start-same, rows-same}
+use Rattle.corrected.proofs.Apart.{bodies-apart}
 use Rattle.rules.specs.declared.Figures.{Figures}
 use Rattle.correct.specs.Correction.{rewritten, withRow}
 use Rattle.correct.proofs.Rewritten.{length-rewritten}

@@ -25,8 +25,7 @@ use Rattle.extent.proofs.Reach.{latitude-reach}
 use Rattle.correct.specs.Correction.{fromFirstMinute, namedRow, hasRow}
 use Rattle.correct.proofs.Place.{row-size}
 use Rattle.touched.specs.Touched.{hasMinute, rowNamed}
-use Rattle.promises.specs.Corrections.{FarLatitude, Named}
-use Rattle.promises.proofs.Beside.{Outside}
+use Rattle.corrected.proofs.Beside.{Outside}
 
 -- ---- of numbers
 -- (a − q) + (q − p) is a − p, so (a − p) − (q − p) is a − q
@@ -78,14 +77,11 @@ module _ (s : List ℕ) (ok : checkOf s .number ≡ 0) where
       ∙ subℕ-le {a = natAbs (rowAt b i .minute)} {b = natAbs (rowAt b 0 .minute)} (omega (arith, minutes-rise i h))
       ∙ ap pos {y = i} (omega (arith, minutes-rise i h))
 
-  pub each-named : (r : ℕ) → r < n → Named s r
+  pub each-named : (r : ℕ) → r < n → (hasMinute s (rowAt b r .minute) ≡ true) × (rowNamed s (rowAt b r .minute) ≡ r)
   unfolding hasRow inRange
   each-named r h =
       let at : namedRow b (rowAt b r .minute) ≡ r = ap natAbs (from-first-is r h) in
-      record {
-        has = rw (from-first-is r h, le-leb 0 r zero-le, le-leb r (n - 1) (omega arith)) (same-self (rowAt b r .minute));
-        row = at;
-      }
+      (rw (from-first-is r h, le-leb 0 r zero-le, le-leb r (n - 1) (omega arith)) (same-self (rowAt b r .minute)), at)
 
   -- ---- a latitude far from the minute's row
   module _ (minute : ℤ) (has : hasMinute s minute ≡ true) where
@@ -96,7 +92,7 @@ module _ (s : List ℕ) (ok : checkOf s .number ≡ 0) where
     unfolding fromFirstMinute
     minute-is = row-size b n minute has .is
 
-    pub far-outside : (north : ℤ) → latitudeKnown s north ≡ true → FarLatitude minute north → Outside r (natAbs (fromFirst s north))
+    pub far-outside : (north : ℤ) → latitudeKnown s north ≡ true → stepOf latitude ≤ natAbs (north -ℤ minute *ℤ pos (stepOf latitude)) → Outside r (natAbs (fromFirst s north))
     unfolding fromFirst firstLatitude
     far-outside north known far =
         let d = natAbs (fromFirst s north) in

@@ -1,0 +1,11 @@
+-- Laws of a corrected sheet: what is read of it, when it passes, and which answers stay. Other crates cite them.
+pub mod SameContents
+pub mod Apart
+pub mod WithRow
+pub mod OtherBytes
+pub mod NewRows
+pub mod WholeCheck
+pub mod Beside
+pub mod Stands
+pub mod SameAnswers
+pub mod Minutes
