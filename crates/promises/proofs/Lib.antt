@@ -1,5 +1,4 @@
 -- The theorems that belong to no one function.
-pub mod CasesHold
 pub mod NearestIsNearest
 pub mod OneAnswer
 pub mod AnswersFit

@@ -1,7 +1,4 @@
--- What the theorems of `promises` say: the printed cases, and what "nearest" means.
-pub mod Bytes
-pub mod CaseSheet
-pub mod Cases
+-- What the theorems of `promises` say: what "nearest" means, what every answer keeps, and demand 3.
 pub mod Meaning
 pub mod Conversions
 pub mod Corrections

@@ -10,8 +10,8 @@ use Rattle.convert.specs.declared.Plane.{Plane}
 use Rattle.convert.specs.declared.Geographic.{Geographic}
 use Rattle.convert.specs.Forward.{geographicToPlane}
 use Rattle.convert.specs.Inverse.{planeToGeographic}
-use Rattle.promises.specs.Bytes.{bytesOf}
-use Rattle.promises.specs.CaseSheet.{caseSheet}
+use Rattle.cases.specs.Bytes.{bytesOf}
+use Rattle.cases.specs.CaseSheet.{caseSheet}
 
 -- What the definitions work, figure by figure, and what is printed, in the same units.
 pub record Case : Type 0 where

@@ -3,7 +3,7 @@
 use mathlib.Core.List.{List, [], _∷_}
 use Prim.Native.Nat.{ℕ}
 use lib.IntN.{pos, negℤ}
-use Rattle.promises.specs.Bytes.{bytesOf}
+use Rattle.cases.specs.Bytes.{bytesOf}
 
 unfoldable pub caseSheet : List ℕ
 caseSheet =

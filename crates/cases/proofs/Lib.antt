@@ -1,0 +1,2 @@
+-- The printed figures are those that the definitions give.
+pub mod CasesHold
