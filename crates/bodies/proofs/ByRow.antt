@@ -5,7 +5,8 @@ use Prim.Native.Nat.{ℕ}
 use Rattle.words.specs.declared.Fault.{Fault}
 use Rattle.words.specs.Ladder.{whereIs}
 use Rattle.words.specs.Faults.{firstFault}
-use Rattle.rows.specs.Rows.{zoneFault, latitudeFault, longitudeFault, northingFault, eastingFault, scaleFault}
+use Rattle.rows.specs.Rows.{latitudeFault}
+use Rattle.small_rows.specs.SmallRows.{zoneFault, longitudeFault, northingFault, eastingFault, scaleFault}
 use Rattle.bodies.specs.Check.{rowFault}
 
 module _ (kind : ℕ) (b : List ℕ) (n : ℕ) where

@@ -13,7 +13,8 @@ use Rattle.contents.specs.Entries.{rowsOf, bodyOf}
 use Rattle.contents.specs.Contents.{verdict, numberOf, contentsOf}
 use Rattle.contents.proofs.Passing.{contents-pass}
 use Rattle.bodies.specs.Check.{rowFault, faultOf, inKind, bodiesOf, checkOf}
-use Rattle.rows.proofs.PassingRows.{ZoneRow, zone-row, LatitudeRow, latitude-row, LongitudeRow, longitude-row, NorthingRow, northing-row, EastingRow, easting-row, ScaleRow, scale-row}
+use Rattle.rows.proofs.PassingRows.{LatitudeRow, latitude-row}
+use Rattle.small_rows.proofs.PassingRows.{ZoneRow, zone-row, LongitudeRow, longitude-row, NorthingRow, northing-row, EastingRow, easting-row, ScaleRow, scale-row}
 
 pub record Sound (s : List ℕ) : Type 0 where
   pub contents : contentsOf s ≡ verdict 0 0 0

@@ -8,7 +8,8 @@ use Rattle.contents.specs.declared.Verdict.{Verdict}
 use Rattle.contents.specs.Layout.{lastKind, zone, latitude, longitude, northing, easting}
 use Rattle.contents.specs.Entries.{rowsOf, bodyOf}
 use Rattle.contents.specs.Contents.{verdict, numberOf, contentsOf}
-use Rattle.rows.specs.Rows.{zoneFault, latitudeFault, longitudeFault, northingFault, eastingFault, scaleFault}
+use Rattle.rows.specs.Rows.{latitudeFault}
+use Rattle.small_rows.specs.SmallRows.{zoneFault, longitudeFault, northingFault, eastingFault, scaleFault}
 
 -- The number of the fault, 0 for none, of row i in the body b of n rows. The kind is 1 to 6, so what is left at the end is scale.
 unfoldable pub rowFault : ℕ → List ℕ → ℕ → ℕ → ℕ

@@ -16,18 +16,18 @@ fn row_fault(kind: usize, b: &[u8], n: usize, i: usize) -> u32
     ensures { λ r. ⌜ r ≡ rowFault kind (now (b .entry)) n i ⌝ }
 {
     if kind == contents::ZONE {
-        return rows::zone_row(b, i);
+        return small_rows::zone_row(b, i);
     }
     if kind == contents::LONGITUDE {
-        return rows::longitude_row(b, n, i);
+        return small_rows::longitude_row(b, n, i);
     }
     if kind == contents::NORTHING {
-        return rows::northing_row(b, i);
+        return small_rows::northing_row(b, i);
     }
     if kind == contents::EASTING {
-        return rows::easting_row(b, i);
+        return small_rows::easting_row(b, i);
     }
-    rows::scale_row(b, i)
+    small_rows::scale_row(b, i)
 }
 
 // The first fault of a body of the kind, but latitude, with n rows.

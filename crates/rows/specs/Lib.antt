@@ -1,2 +1,2 @@
--- The definitions that `rows` and the crates above it cite: the fault of a row, by kind.
+-- The definitions that `rows` and the crates above it cite: the fault of a latitude row.
 pub mod Rows

@@ -13,7 +13,8 @@ use Rattle.figures.specs.Ranges.{mostH, mostV, mostA, mostB, mostC, mostP, most
 use Rattle.figures.proofs.Sizes.{Size, times-most}
 use Rattle.rules.proofs.WhatPasses.{InRange, range-size, range-most}
 use Rattle.rows.specs.Rows.{figuresAt}
-use Rattle.rows.proofs.PassingFigures.{minute-in-range, figures-in-range, figures-within, b-most}
+use Rattle.rows.proofs.PassingFigures.{minute-in-range, figures-in-range, figures-within}
+use Rattle.small_rows.proofs.PassingFigures.{b-most}
 use Rattle.contents.specs.Layout.{lastKind, zone, latitude, longitude, northing, easting, scale, stepOf}
 use Rattle.contents.specs.Entries.{rowsOf, bodyOf}
 use Rattle.contents.proofs.Passing.{rows-some}

@@ -1,9 +1,9 @@
--- `rows::longitude_row` meets its contract. Assumes nothing.
+-- `small_rows::longitude_row` meets its contract. Assumes nothing.
 use Rattle.words.proofs.Refusals.{stop, go, below, beyond}
-use Rattle.rows.specs.Rows.{longitudeFault}
+use Rattle.small_rows.specs.SmallRows.{longitudeFault}
 use borrow.Author.Needs.{needs}
-use Rattle.rows.proofs.longitude_row.Statement.{statement}
-use Rattle.rows.proofs.longitude_row.Tie as tie
+use Rattle.small_rows.proofs.longitude_row.Statement.{statement}
+use Rattle.small_rows.proofs.longitude_row.Tie as tie
 
 returns : tie.Need-returns
 unfolding longitudeFault

@@ -1,9 +1,9 @@
--- `rows::easting_row` meets its contract. Assumes nothing.
+-- `small_rows::easting_row` meets its contract. Assumes nothing.
 use Rattle.words.proofs.Refusals.{stop, go}
-use Rattle.rows.specs.Rows.{eastingFault}
+use Rattle.small_rows.specs.SmallRows.{eastingFault}
 use borrow.Author.Needs.{needs}
-use Rattle.rows.proofs.easting_row.Statement.{statement}
-use Rattle.rows.proofs.easting_row.Tie as tie
+use Rattle.small_rows.proofs.easting_row.Statement.{statement}
+use Rattle.small_rows.proofs.easting_row.Tie as tie
 
 returns : tie.Need-returns
 unfolding eastingFault

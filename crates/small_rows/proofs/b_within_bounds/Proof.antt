@@ -1,10 +1,10 @@
--- `rows::b_within_bounds` meets its contract. Assumes nothing.
+-- `small_rows::b_within_bounds` meets its contract. Assumes nothing.
 use mathlib.Core.Path.{_≡_, _∙_}
 use mir.Syntax.{w32}
 use mir.Val.{toZ, ofZ}
 use borrow.Author.Needs.{needs}
-use Rattle.rows.proofs.b_within_bounds.Statement.{statement}
-use Rattle.rows.proofs.b_within_bounds.Tie as tie
+use Rattle.small_rows.proofs.b_within_bounds.Statement.{statement}
+use Rattle.small_rows.proofs.b_within_bounds.Tie as tie
 
 returns : tie.Need-returns
 returns c =

@@ -1,9 +1,9 @@
--- `rows::zero_first` meets its contract. Assumes nothing.
+-- `small_rows::zero_first` meets its contract. Assumes nothing.
 use Rattle.words.proofs.Refusals.{below, beyond}
-use Rattle.rows.specs.Rows.{zeroFirst}
+use Rattle.small_rows.specs.SmallRows.{zeroFirst}
 use borrow.Author.Needs.{needs}
-use Rattle.rows.proofs.zero_first.Statement.{statement}
-use Rattle.rows.proofs.zero_first.Tie as tie
+use Rattle.small_rows.proofs.zero_first.Statement.{statement}
+use Rattle.small_rows.proofs.zero_first.Tie as tie
 
 returns : tie.Need-returns
 unfolding zeroFirst

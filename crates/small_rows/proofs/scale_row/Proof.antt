@@ -1,9 +1,9 @@
--- `rows::scale_row` meets its contract. Assumes nothing.
+-- `small_rows::scale_row` meets its contract. Assumes nothing.
 use Rattle.words.proofs.Refusals.{stop, go}
-use Rattle.rows.specs.Rows.{scaleFault}
+use Rattle.small_rows.specs.SmallRows.{scaleFault}
 use borrow.Author.Needs.{needs}
-use Rattle.rows.proofs.scale_row.Statement.{statement}
-use Rattle.rows.proofs.scale_row.Tie as tie
+use Rattle.small_rows.proofs.scale_row.Statement.{statement}
+use Rattle.small_rows.proofs.scale_row.Tie as tie
 
 returns : tie.Need-returns
 unfolding scaleFault

@@ -1,20 +1,20 @@
--- `rows::zone_row` meets its contract. Assumes nothing.
+-- `small_rows::northing_row` meets its contract. Assumes nothing.
 use Rattle.words.proofs.Refusals.{stop, go}
-use Rattle.rows.specs.Rows.{zoneFault}
+use Rattle.small_rows.specs.SmallRows.{northingFault}
 use borrow.Author.Needs.{needs}
-use Rattle.rows.proofs.zone_row.Statement.{statement}
-use Rattle.rows.proofs.zone_row.Tie as tie
+use Rattle.small_rows.proofs.northing_row.Statement.{statement}
+use Rattle.small_rows.proofs.northing_row.Tie as tie
 
 returns : tie.Need-returns
-unfolding zoneFault
+unfolding northingFault
 returns c = search stop
 
 returns-2 : tie.Need-returns-2
-unfolding zoneFault
+unfolding northingFault
 returns-2 c = search (stop, go)
 
 returns-3 : tie.Need-returns-3
-unfolding zoneFault
+unfolding northingFault
 returns-3 c = search go
 
 mul-word-in : tie.Need-mul-word-in
@@ -32,8 +32,8 @@ add-word-in c = search needs
 word-in-requires-2 : tie.Need-word-in-requires-2
 word-in-requires-2 c κs = search needs
 
-pub zone-row-spec : {M : Type 1} → statement M
-zone-row-spec =
+pub northing-row-spec : {M : Type 1} → statement M
+northing-row-spec =
     tie.close
     (tie.spec
     mul-word-in

@@ -1,10 +1,10 @@
--- `rows::word_in` meets its contract. Assumes nothing.
+-- `small_rows::word_in` meets its contract. Assumes nothing.
 use mathlib.Core.Path.{_≡_, _∙_}
 use mir.Syntax.{w32}
 use mir.Val.{toZ, ofZ}
 use borrow.Author.Needs.{needs}
-use Rattle.rows.proofs.word_in.Statement.{statement}
-use Rattle.rows.proofs.word_in.Tie as tie
+use Rattle.small_rows.proofs.word_in.Statement.{statement}
+use Rattle.small_rows.proofs.word_in.Tie as tie
 
 returns : tie.Need-returns
 returns c =
