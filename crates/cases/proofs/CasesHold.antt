@@ -9,7 +9,8 @@ use Rattle.words.specs.Ladder.{need, whereBelow, whereIs, orElse}
 use Rattle.words.specs.Faults.{firstFault}
 use Rattle.rules.specs.Limits.{inRange, rises, sameAs}
 use Rattle.rules.specs.Latitude.{figuresInRange, withinBounds, differencesOf, noDifferences, sameDifferences}
-use Rattle.rows.specs.Rows.{zeroFirst, figuresAt, differencesAt, rowInRange, pairFault, lastFault, zoneFault, latitudeFault, longitudeFault, northingFault, eastingFault, scaleFault}
+use Rattle.rows.specs.Rows.{figuresAt, differencesAt, rowInRange, pairFault, lastFault, latitudeFault}
+use Rattle.small_rows.specs.SmallRows.{zeroFirst, zoneFault, longitudeFault, northingFault, eastingFault, scaleFault}
 use Rattle.contents.specs.Entries.{named, dueAt, entryOf}
 use Rattle.contents.specs.Contents.{within, entryFault, sized, contentsOf}
 use Rattle.bodies.specs.Check.{rowFault, bodiesOf, checkOf}
