@@ -1,6 +1,6 @@
 -- `batch::batch` meets its contract: 17, the check's number, or every point answered. Assumes nothing.
 use borrow.Author.Needs.{needs}
-use mathlib.Core.Path.{_≡_, refl, sym, ap, _∙_}
+use mathlib.Core.Path.{sym, ap, _∙_}
 use Rattle.words.proofs.Refusals.{kept}
 use Rattle.convert.proofs.Checked.{sheet-long}
 use Rattle.batch.proofs.Turns.{refused-17, refused-check, all-answered}

@@ -1,0 +1,3 @@
+pub mod DigitsRead
+pub mod NumbersRead
+pub mod Spelling

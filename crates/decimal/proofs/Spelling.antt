@@ -1,0 +1,109 @@
+-- Bytes stored one after another, and a number's digits stored from the last one back. Assumes nothing.
+use mathlib.Core.Path.{_≡_, refl, sym, ap, _∙_}
+use mathlib.Core.List.{List, [], _∷_, _++_}
+use Prim.Native.Nat.{ℕ, zero, suc, _+_, _-_, _*_, _/_, _%_, _^_, _≤_, _<_}
+use native.Mathlib.Numerals.{add-one}
+use native.Mathlib.Omega.{arith}
+use mathlib.Core.Bool.{true, false}
+use borrow.Author.Tests.{ltb-true}
+use lib.IntN.{ℤ, pos, negsuc, natAbs}
+use lib.Signed.{ltZ}
+use lib.ListN.{length, set, length-append}
+use lib.Seq.{sets, set-comm}
+use Rattle.words.proofs.Refusals.{below, beyond}
+use Rattle.decimal.proofs.DigitsRead.{powers}
+use Rattle.decimal.specs.Writing.{placesFrom, places, spelled, sizeText, numberText}
+
+-- ---- a run of stores after another is the run of both
+pub sets-after : {A : Type 0} (l : List A) (i j : ℕ) (a b : List A) → j ≡ i + length a → sets (sets l i a) j b ≡ sets l i (a ++ b)
+sets-after l i j [] b e = let f : j ≡ i = omega (arith, e) in rw f
+sets-after l i j (x ∷ a) b e = sets-after (set l i x) (suc i) j a b (omega (arith, e))
+
+-- ---- a store behind a run may come before it
+set-first : {A : Type 0} (l : List A) (i j : ℕ) (a : List A) (x : A) → i + length a ≤ j → set (sets l i a) j x ≡ sets (set l j x) i a
+set-first l i j [] x h = refl
+set-first l i j (y ∷ a) x h = set-first (set l i y) (suc i) j a x (omega (arith, h)) ∙ ap (λ l. sets l (suc i) a) (set-comm l i j y x (λ e. omega (arith, h, e)))
+
+length-spelled : (k v : ℕ) → length (spelled k v) ≡ k
+unfolding spelled
+length-spelled zero v = refl
+length-spelled (suc k) v = simp (length-append, length-spelled k (v / 10)) (omega arith)
+
+-- ---- the last digit first, then those before it
+pub last-first : (l : List ℕ) (at k v : ℕ) → sets (set l (at + k) (48 + v % 10)) at (spelled k (v / 10)) ≡ sets l at (spelled (k + 1) v)
+unfolding spelled
+last-first l at k v =
+    let n = length-spelled k (v / 10) in
+    sym (set-first l at (at + k) (spelled k (v / 10)) (48 + v % 10) (omega (arith, n)))
+    ∙ sets-after l at (at + k) (spelled k (v / 10)) ((48 + v % 10) ∷ []) (omega (arith, n))
+    ∙ rw (add-one k)
+
+pub none-left : (l : List ℕ) (at v : ℕ) → sets l at (spelled 0 v) ≡ l
+unfolding spelled
+none-left l at v = refl
+
+-- ---- how many digits there are
+module _ (left limit k v : ℕ) where
+  pub enough : v < limit → k ≡ placesFrom (left + 1) limit k v
+  unfolding placesFrom
+  enough h = rw (add-one left) (below v limit k (placesFrom left (10 * limit) (k + 1) v) k h refl)
+
+  pub one-more-place : limit ≤ v → placesFrom left (10 * limit) (k + 1) v ≡ placesFrom (left + 1) limit k v
+  unfolding placesFrom
+  one-more-place h = rw (add-one left) (beyond v limit k (placesFrom left (10 * limit) (k + 1) v) (placesFrom left (10 * limit) (k + 1) v) h refl)
+
+-- k places are not enough, up to here, and `limit` is the least number that has more
+pub record Placed (v k limit : ℕ) : Type 0 where
+  pub same : placesFrom (20 - k) limit k v ≡ places v
+  pub power : limit ≡ 10 ^ k
+  pub most : k ≤ 19
+
+pub one-place : (v : ℕ) → Placed v 1 10
+unfolding places
+one-place v = record { same = refl; power = refl; most = omega arith }
+
+module _ (v k limit : ℕ) (p : Placed v k limit) where
+  pub limit-small : k < 19 → 10 * limit < 2 ^ 64
+  limit-small h = omega (arith, p .power, powers k (18 - k) 18 (omega arith))
+
+  pub placed : v < limit → k ≡ places v
+  placed h = let e : 19 - k + 1 ≡ 20 - k = omega (arith, p .most) in rw e at (enough (19 - k) limit k v h) ∙ p .same
+
+  pub next-place : k < 19 → limit ≤ v → Placed v (k + 1) (10 * limit)
+  next-place l h =
+      let e : 19 - k + 1 ≡ 20 - k = omega (arith, p .most) in
+      let f : 20 - (k + 1) ≡ 19 - k = omega arith in
+      record {
+        same = rw f (rw e at (one-more-place (19 - k) limit k v h) ∙ p .same);
+        power = rw (add-one k) (omega (arith, p .power));
+        most = omega (arith, l);
+      }
+
+  pub last-place : 19 ≤ k → limit ≤ v → 20 ≡ places v
+  unfolding placesFrom
+  last-place l h =
+      let e : k ≡ 19 = omega (arith, p .most, l) in
+      one-more-place 0 limit 19 v h ∙ rw e at (p .same)
+
+pub length-size : (v k : ℕ) → k ≡ places v → length (sizeText v) ≡ k
+unfolding sizeText
+length-size v k e = length-spelled (places v) v ∙ sym e
+
+pub written-size : (old new : List ℕ) (at v k : ℕ) → k ≡ places v → new ≡ sets old at (spelled k v) → new ≡ sets old at (sizeText v)
+unfolding sizeText
+written-size old new at v k e h = rw (← e) h
+
+-- ---- a signed number, after its minus or without one
+module _ (old new : List ℕ) (at r size : ℕ) where
+  pub after-minus : (v : ℤ) (mid : List ℕ) (next : ℕ) → ltZ v (pos 0) ≡ true → size ≡ natAbs v → next ≡ at + 1 → mid ≡ sets old at (45 ∷ [])
+      → r ≡ next + length (sizeText size) → new ≡ sets mid next (sizeText size) → (r ≡ at + length (numberText v)) × (new ≡ sets old at (numberText v))
+  unfolding numberText
+  after-minus (pos n) mid next t e n′ m l w = absurd (omega (arith, ltb-true n 0 t))
+  after-minus (negsuc n) mid next t e n′ m l w =
+      (omega (arith, rw e at l, n′), w ∙ rw (m, e, n′) (sets-after old at (at + 1) (45 ∷ []) (sizeText (suc n)) refl))
+
+  pub without-minus : (v : ℤ) → ltZ v (pos 0) ≡ false → size ≡ natAbs v → r ≡ at + length (sizeText size) → new ≡ sets old at (sizeText size)
+      → (r ≡ at + length (numberText v)) × (new ≡ sets old at (numberText v))
+  unfolding numberText
+  without-minus (pos n) t e l w = (rw e at l, rw e at w)
+  without-minus (negsuc n) t e l w = let z : _≡_ {A = ℕ} 0 1 = cc in absurd (omega arith)

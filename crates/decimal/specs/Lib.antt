@@ -1,0 +1,3 @@
+-- Numbers as text.
+pub mod Reading
+pub mod Writing

@@ -1,0 +1,183 @@
+// Numbers as text: read from a line of bytes, and written, in decimal with an optional minus.
+ghost use mathlib.Core.Path.{_≡_};
+ghost use mathlib.Core.List.{_∷_, []};
+ghost use Prim.Native.Nat.{_+_, _-_, _^_, _≤_, _<_};
+ghost use lib.ListN.{length, drop, getD};
+ghost use lib.Seq.{sets};
+ghost use Rattle.decimal.specs.Reading.{digitOf, minusOf, digitsOf, signed, numberOf};
+ghost use Rattle.decimal.specs.Writing.{places, spelled, sizeText, numberText};
+
+// Digits that were read: how many, and their value. None have count 0.
+pub struct Digits {
+    pub count: usize,
+    pub value: u64,
+}
+
+// A number that was read: how many bytes it takes, and its value. None has length 0.
+pub struct Number {
+    pub length: usize,
+    pub value: i32,
+}
+
+const MOST_DIGITS: usize = 10;
+
+const MOST: u64 = 2_147_483_647;
+
+// ---- reading
+
+// A byte of s, and 0 past its end.
+pub fn byte_at(s: &[u8], i: usize) -> u8
+    ensures { λ r. ⌜ r ≡ getD (now (s .entry)) i 0 ⌝ }
+{
+    if i < s.len() {
+        return s[i];
+    }
+    0
+}
+
+// The digit that a byte stands for, or 10.
+fn digit_of(b: u8) -> u64
+    ensures { λ r. ⌜ (r ≡ digitOf b) × (r ≤ 10) ⌝ }
+{
+    if b < b'0' {
+        return 10;
+    }
+    if b'9' < b {
+        return 10;
+    }
+    (b - b'0') as u64
+}
+
+// The digits from `at` on, one to ten of them.
+fn digits_at(s: &[u8], at: usize) -> Digits
+    ensures { λ r. ⌜ (r ≡ digitsOf (drop at (now (s .entry)))) × (r .count ≤ 10) × (r .value < 10 ^ 10) ⌝ }
+{
+    let mut i = at;
+    let mut count = 0;
+    let mut value: u64 = 0;
+    while i < s.len() {
+        let digit = digit_of(s[i]);
+        if 9 < digit {
+            return Digits { count, value };
+        }
+        if count == MOST_DIGITS {
+            return Digits { count: 0, value: 0 };
+        }
+        value = 10 * value + digit;
+        count += 1;
+        i += 1;
+    }
+    Digits { count, value }
+}
+
+// 1 where a minus stands at `at`, else 0.
+fn minus_at(s: &[u8], at: usize) -> usize
+    ensures { λ r. ⌜ (r ≡ minusOf (drop at (now (s .entry)))) × (r ≤ 1) × (r ≤ length (now (s .entry)) - at) ⌝ }
+{
+    if byte_at(s, at) == b'-' { 1 } else { 0 }
+}
+
+// The number of digits with the minus before them, 1 or 0, where 32 bits hold it.
+fn number_of(minus: usize, count: usize, value: u64) -> Number
+    requires { ⌜ (minus ≤ 1) × (count ≤ 10) × (value < 10 ^ 10) ⌝ }
+    ensures { λ r. ⌜ (r ≡ signed minus count value) × (r .length ≤ 11) ⌝ }
+{
+    if count == 0 {
+        return Number {
+            length: 0,
+            value: 0,
+        };
+    }
+    if MOST + (minus as u64) < value {
+        return Number {
+            length: 0,
+            value: 0,
+        };
+    }
+    if minus == 0 {
+        return Number {
+            length: count,
+            value: value as i32,
+        };
+    }
+    Number {
+        length: count + 1,
+        value: (0 - (value as i64)) as i32,
+    }
+}
+
+// The number from `at` on.
+pub fn number_at(s: &[u8], at: usize) -> Number
+    ensures { λ r. ⌜ (r ≡ numberOf (drop at (now (s .entry)))) × (r .length ≤ 11) ⌝ }
+{
+    let minus = minus_at(s, at);
+    let d = digits_at(s, at + minus);
+    number_of(minus, d.count, d.value)
+}
+
+// ---- writing
+
+// How many digits v has.
+fn places_of(v: u64) -> usize
+    ensures { λ r. ⌜ (r ≡ places v) × (r ≤ 20) ⌝ }
+{
+    let mut k = 1;
+    let mut limit: u64 = 10;
+    while k < 19 {
+        if v < limit {
+            return k;
+        }
+        limit = 10 * limit;
+        k += 1;
+    }
+    if v < limit {
+        return 19;
+    }
+    20
+}
+
+// The last k digits of v, written from `at` on.
+fn spell(out: &mut [u8], at: usize, v: u64, k: usize)
+    requires { ⌜ at + k ≤ length (now out) ⌝ }
+    ensures { λ _. ⌜ now (out .exit) ≡ sets (now (out .entry)) at (spelled k v) ⌝ }
+{
+    let mut i = k;
+    let mut rest = v;
+    while 0 < i {
+        i -= 1;
+        out[at + i] = b'0' + (rest % 10) as u8;
+        rest = rest / 10;
+    }
+}
+
+// A byte, written at `at`; the place after it.
+pub fn put_byte(out: &mut [u8], at: usize, b: u8) -> usize
+    requires { ⌜ at < length (now out) ⌝ }
+    ensures { λ r. ⌜ (r ≡ at + 1) × (now (out .exit) ≡ sets (now (out .entry)) at (b ∷ [])) ⌝ }
+{
+    out[at] = b;
+    at + 1
+}
+
+// A size, written from `at` on; the place after it.
+pub fn put_size(out: &mut [u8], at: usize, v: u64) -> usize
+    requires { ⌜ at + 20 ≤ length (now out) ⌝ }
+    ensures { λ r. ⌜ (r ≡ at + length (sizeText v)) × (r ≤ at + 20) × (now (out .exit) ≡ sets (now (out .entry)) at (sizeText v)) ⌝ }
+{
+    let k = places_of(v);
+    spell(out, at, v, k);
+    at + k
+}
+
+// A signed number, written from `at` on; the place after it.
+pub fn put_number(out: &mut [u8], at: usize, v: i32) -> usize
+    requires { ⌜ at + 21 ≤ length (now out) ⌝ }
+    ensures { λ r. ⌜ (r ≡ at + length (numberText v)) × (r ≤ at + 21) × (now (out .exit) ≡ sets (now (out .entry)) at (numberText v)) ⌝ }
+{
+    let size = figures::size(v as i64);
+    if v < 0 {
+        let next = put_byte(out, at, b'-');
+        return put_size(out, next, size);
+    }
+    put_size(out, at, size)
+}
