@@ -11,7 +11,7 @@ use Rattle.rules.specs.Limits.{inRange, rises, sameAs}
 use Rattle.rules.specs.Latitude.{figuresInRange, withinBounds, differencesOf, noDifferences, sameDifferences}
 use Rattle.rows.specs.Rows.{figuresAt, differencesAt, rowInRange, pairFault, lastFault, latitudeFault}
 use Rattle.small_rows.specs.SmallRows.{zeroFirst, zoneFault, longitudeFault, northingFault, eastingFault, scaleFault}
-use Rattle.contents.specs.Entries.{named, dueAt, entryOf}
+use Rattle.entries.specs.Entries.{named, dueAt, entryOf}
 use Rattle.contents.specs.Contents.{within, entryFault, sized, contentsOf}
 use Rattle.bodies.specs.Check.{rowFault, bodiesOf, checkOf}
 use Rattle.reading.specs.Tables.{pastRow, valueAt, withinRows}

@@ -5,7 +5,7 @@ use Prim.Native.Nat.{ℕ, _≤_}
 use lib.IntN.{ℤ}
 use lib.ListN.{length}
 use Rattle.words.proofs.Refusals.{refused, passed-on}
-use Rattle.contents.specs.Layout.{leastBytes}
+use Rattle.entries.specs.Layout.{leastBytes}
 use Rattle.contents.proofs.Passing.{passed}
 use Rattle.bodies.specs.Check.{checkOf}
 use Rattle.tables.proofs.Parts.{contents-none}

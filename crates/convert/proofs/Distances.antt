@@ -18,8 +18,8 @@ use Rattle.figures.proofs.Sizes.{Size, pos-minus, subℕ-le}
 use Rattle.figures.proofs.Rounding.{nearestSize-most}
 use Rattle.words.specs.Ladder.{whereBelow}
 use Rattle.words.proofs.Refusals.{where-below, where-beyond}
-use Rattle.contents.specs.Layout.{latitude, stepOf}
-use Rattle.contents.specs.Entries.{rowsOf}
+use Rattle.entries.specs.Layout.{latitude, stepOf}
+use Rattle.entries.specs.Entries.{rowsOf}
 use Rattle.bodies.specs.Check.{checkOf}
 use Rattle.reading.proofs.LastRow.{last-below, last-not-above, later-above}
 use Rattle.tables.specs.Figures.{y0Of}

@@ -12,8 +12,8 @@ use Rattle.figures.specs.Ranges.{mostH, mostV, mostA, mostS}
 use Rattle.figures.specs.Steps.{qOf, sizeOfX, rise}
 use Rattle.figures.proofs.Sizes.{Size, size-from, sum-nonNeg, size-product, size-withSign, sum-most, product-most}
 use Rattle.figures.proofs.StepBounds.{q-most, x-size-most, rise-most}
-use Rattle.contents.specs.Layout.{latitude, longitude, stepOf}
-use Rattle.contents.specs.Entries.{rowsOf}
+use Rattle.entries.specs.Layout.{latitude, longitude, stepOf}
+use Rattle.entries.specs.Entries.{rowsOf}
 use Rattle.bodies.specs.Check.{checkOf}
 use Rattle.tables.specs.Figures.{falseEasting, y0At, hAt, vAt, aAt, bAt, cAt}
 use Rattle.tables.proofs.Ranges.{easting-size, y0-between, h-between, v-between, a-most, b-between, b-slope, c-between}

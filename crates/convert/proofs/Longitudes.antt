@@ -13,8 +13,8 @@ use Rattle.figures.specs.Steps.{approximateL, sizeOfL, reduction}
 use Rattle.figures.proofs.Sizes.{Size, size-from, sum-nonNeg, size-minus, size-product, product-most}
 use Rattle.figures.proofs.Rounding.{IsNearest, is-nearest}
 use Rattle.figures.proofs.StepBounds.{reduction-most, approximate-most, l-size-most}
-use Rattle.contents.specs.Layout.{latitude, northing, easting, stepOf}
-use Rattle.contents.specs.Entries.{rowsOf}
+use Rattle.entries.specs.Layout.{latitude, northing, easting, stepOf}
+use Rattle.entries.specs.Entries.{rowsOf}
 use Rattle.bodies.specs.Check.{checkOf}
 use Rattle.tables.specs.Figures.{firstLatitude, hAt, aAt, bAt, pAt, dAt}
 use Rattle.tables.proofs.Ranges.{a-most, b-between, b-slope, p-between, d-between}

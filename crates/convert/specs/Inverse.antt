@@ -5,8 +5,8 @@ use lib.IntN.{ℤ, pos, natAbs, _+ℤ_, _-ℤ_}
 use Rattle.figures.specs.Nearest.{withSign}
 use Rattle.figures.specs.Steps.{reduction, seconds, approximateL, sizeOfL}
 use Rattle.words.specs.Ladder.{need, whereBelow}
-use Rattle.contents.specs.Layout.{latitude, stepOf}
-use Rattle.contents.specs.Entries.{rowsOf}
+use Rattle.entries.specs.Layout.{latitude, stepOf}
+use Rattle.entries.specs.Entries.{rowsOf}
 use Rattle.reading.specs.Rows.{lastNotAbove}
 use Rattle.tables.specs.Figures.{centralMeridian, firstLatitude, y0Of, hAt, aAt, bAt, pAt, dAt}
 use Rattle.extent.specs.Extent.{sizeKnown, xPrime, eastingKnown, northingKnown, reducedKnown}

@@ -1,14 +1,14 @@
 // The Survey's conversions on a sheet: geographic to plane, plane to geographic, convergence and scale. Each has two forms with one definition: over any bytes, which
 // are checked first, and over a sheet known to pass, with its places in hand.
-use contents::Places;
+use entries::Places;
 ghost use mathlib.Core.Path.{_≡_};
 ghost use mathlib.Core.Bool.{true};
 ghost use Prim.Native.Nat.{_-_, _*_, _^_, _<_, _≤_};
 ghost use lib.IntN.{pos, natAbs, _-ℤ_};
 ghost use lib.Signed.{leZ};
 ghost use Rattle.figures.specs.Ranges.{mostGap};
-ghost use Rattle.contents.specs.Layout.{latitude, longitude, easting, stepOf};
-ghost use Rattle.contents.specs.Entries.{rowsOf, placesOf};
+ghost use Rattle.entries.specs.Layout.{latitude, longitude, easting, stepOf};
+ghost use Rattle.entries.specs.Entries.{rowsOf, placesOf};
 ghost use Rattle.bodies.specs.Check.{checkOf};
 ghost use Rattle.tables.specs.Figures.{bAt, cAt};
 ghost use Rattle.extent.specs.Extent.{latitudeKnown, longitudeKnown, sizeKnown, eastingKnown, northingKnown, scaleKnown, reducedKnown};
@@ -116,7 +116,7 @@ pub fn geographic_to_plane(sheet: &[u8], latitude: i32, longitude: i32) -> Plane
     if number != 0 {
         return Plane { number, x: 0, y: 0 };
     }
-    forward(sheet, contents::places_of(sheet), latitude, longitude)
+    forward(sheet, entries::places_of(sheet), latitude, longitude)
 }
 
 // ---- plane to geographic
@@ -149,7 +149,7 @@ fn seconds_past(s: &[u8], p: Places, reduced: i64, row: usize) -> u64
         let y0 = tables::y0_of(s, p, row);
         let next = tables::y0_of(s, p, row + 1);
         figures::seconds(
-            contents::step_of(contents::LATITUDE),
+            entries::step_of(entries::LATITUDE),
             above(y0, reduced),
             above(y0, next),
         )
@@ -164,7 +164,7 @@ fn distance_of(s: &[u8], p: Places, reduced: i64) -> u64
     ensures { λ r. ⌜ (r ≡ distanceOf (now (s .entry)) reduced) × (r ≤ (rowsOf (now (s .entry)) latitude - 1) * stepOf latitude) ⌝ }
 {
     let row = tables::row_of(s, p.latitude, reduced);
-    (row as u64) * contents::step_of(contents::LATITUDE) + seconds_past(s, p, reduced, row)
+    (row as u64) * entries::step_of(entries::LATITUDE) + seconds_past(s, p, reduced, row)
 }
 
 // Approximate L, in 0.001″, at the size x of x′ and the latitude's distance t from row 0.
@@ -273,7 +273,7 @@ pub fn plane_to_geographic(sheet: &[u8], x: i32, y: i32) -> Geographic
             longitude: 0,
         };
     }
-    inverse(sheet, contents::places_of(sheet), x, y)
+    inverse(sheet, entries::places_of(sheet), x, y)
 }
 
 // ---- convergence and scale
@@ -327,5 +327,5 @@ pub fn convergence_and_scale(sheet: &[u8], x: i32, y: i32) -> Grid
             scale: 0,
         };
     }
-    convergence(sheet, contents::places_of(sheet), x, y)
+    convergence(sheet, entries::places_of(sheet), x, y)
 }

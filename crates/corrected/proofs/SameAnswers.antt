@@ -15,8 +15,8 @@ use Rattle.figures.proofs.Order.{leZ-equal}
 use Rattle.figures.proofs.Rounding.{nearestSize-most}
 use Rattle.words.specs.Ladder.{need, whereBelow}
 use Rattle.words.proofs.Refusals.{where-below, where-beyond}
-use Rattle.contents.specs.Layout.{latitude, stepOf}
-use Rattle.contents.specs.Entries.{rowsOf}
+use Rattle.entries.specs.Layout.{latitude, stepOf}
+use Rattle.entries.specs.Entries.{rowsOf}
 use Rattle.bodies.specs.Check.{checkOf}
 use Rattle.reading.specs.Rows.{Rising}
 use Rattle.reading.proofs.Rising.{rises-rising}

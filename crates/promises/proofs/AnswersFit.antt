@@ -12,8 +12,8 @@ use Rattle.figures.proofs.Sizes.{sum-most, difference-most, size-withSign}
 use Rattle.figures.specs.Nearest.{withSign}
 use Rattle.figures.specs.Ranges.{mostS}
 use Rattle.words.specs.Ladder.{need}
-use Rattle.contents.specs.Layout.{latitude, longitude, stepOf}
-use Rattle.contents.specs.Entries.{rowsOf}
+use Rattle.entries.specs.Layout.{latitude, longitude, stepOf}
+use Rattle.entries.specs.Entries.{rowsOf}
 use Rattle.bodies.specs.Check.{checkOf}
 use Rattle.tables.specs.Figures.{centralMeridian, firstLatitude}
 use Rattle.tables.proofs.Ranges.{central-size, first-most, k-between}

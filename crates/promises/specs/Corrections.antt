@@ -8,8 +8,8 @@ use Prim.Native.Nat.{ℕ, _+_, _-_, _*_, _<_, _≤_}
 use lib.IntN.{ℤ, pos, negℤ, natAbs, _-ℤ_, _*ℤ_}
 use lib.ListN.{getD}
 use lib.Signed.{leZ}
-use Rattle.contents.specs.Layout.{latitude, stepOf}
-use Rattle.contents.specs.Entries.{startOf, rowsOf, bodyOf}
+use Rattle.entries.specs.Layout.{latitude, stepOf}
+use Rattle.entries.specs.Entries.{startOf, rowsOf, bodyOf}
 use Rattle.contents.specs.Contents.{verdict}
 use Rattle.rules.specs.declared.Figures.{Figures}
 use Rattle.rows.specs.Rows.{figuresAt, rowAt}

@@ -15,8 +15,8 @@ use Rattle.rules.proofs.WhatPasses.{InRange, range-size, range-most}
 use Rattle.rows.specs.Rows.{figuresAt}
 use Rattle.rows.proofs.PassingFigures.{minute-in-range, figures-in-range, figures-within}
 use Rattle.small_rows.proofs.PassingFigures.{b-most}
-use Rattle.contents.specs.Layout.{lastKind, zone, latitude, longitude, northing, easting, scale, stepOf}
-use Rattle.contents.specs.Entries.{rowsOf, bodyOf}
+use Rattle.entries.specs.Layout.{lastKind, zone, latitude, longitude, northing, easting, scale, stepOf}
+use Rattle.entries.specs.Entries.{rowsOf, bodyOf}
 use Rattle.contents.proofs.Passing.{rows-some}
 use Rattle.bodies.specs.Check.{checkOf}
 use Rattle.bodies.proofs.Sound.{passes-sound, zone-rows, latitude-rows, longitude-rows, northing-rows, easting-rows, scale-rows}

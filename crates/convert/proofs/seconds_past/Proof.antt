@@ -6,8 +6,8 @@ use lib.Dec.{lit≤}
 use denote.Ref.{now}
 use mir.Syntax.{w64}
 use mir.Val.{toZ, ofZ}
-use Rattle.contents.specs.Layout.{latitude}
-use Rattle.contents.specs.Entries.{rowsOf}
+use Rattle.entries.specs.Layout.{latitude}
+use Rattle.entries.specs.Entries.{rowsOf}
 use Rattle.extent.proofs.Counts.{count-is}
 use Rattle.convert.proofs.Distances.{z-most, row-below, next-fits, above-row, above-next, past-asks, gap-some, gap-asks, seconds-are, no-seconds}
 use Rattle.convert.proofs.Bits.{bits-is, bits-most}

@@ -2,7 +2,7 @@
 use mathlib.Core.Path.{_≡_, refl}
 use Prim.Native.Nat.{ℕ, zero, suc, _<_, _≤_}
 use native.Mathlib.Omega.{arith}
-use Rattle.contents.specs.Layout.{lastKind, widthOf, stepOf}
+use Rattle.entries.specs.Layout.{lastKind, widthOf, stepOf}
 
 -- what is left: zone, longitude and northing
 pub width-two : (k : ℕ) → (k ≡ 0 → ⊥) → (k ≡ 2 → ⊥) → k < 5 → 2 ≡ widthOf k

@@ -1,7 +1,7 @@
--- `contents::named_before` meets its contract. Assumes nothing.
+-- `entries::named_before` meets its contract. Assumes nothing.
 use borrow.Author.Needs.{needs}
-use Rattle.contents.proofs.named_before.Statement.{statement}
-use Rattle.contents.proofs.named_before.Tie as tie
+use Rattle.entries.proofs.named_before.Statement.{statement}
+use Rattle.entries.proofs.named_before.Tie as tie
 
 returns : tie.Need-returns
 returns c = cc

@@ -1,8 +1,8 @@
--- `contents::width_of` meets its contract. Assumes nothing.
-use Rattle.contents.proofs.ByTable.{width-two, width-one}
+-- `entries::width_of` meets its contract. Assumes nothing.
+use Rattle.entries.proofs.ByTable.{width-two, width-one}
 use borrow.Author.Needs.{needs}
-use Rattle.contents.proofs.width_of.Statement.{statement}
-use Rattle.contents.proofs.width_of.Tie as tie
+use Rattle.entries.proofs.width_of.Statement.{statement}
+use Rattle.entries.proofs.width_of.Tie as tie
 
 returns : tie.Need-returns
 returns c = search needs

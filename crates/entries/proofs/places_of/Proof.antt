@@ -1,8 +1,8 @@
--- `contents::places_of` meets its contract. Assumes nothing.
-use Rattle.contents.specs.Entries.{placesOf}
+-- `entries::places_of` meets its contract. Assumes nothing.
+use Rattle.entries.specs.Entries.{placesOf}
 use borrow.Author.Needs.{needs}
-use Rattle.contents.proofs.places_of.Statement.{statement}
-use Rattle.contents.proofs.places_of.Tie as tie
+use Rattle.entries.proofs.places_of.Statement.{statement}
+use Rattle.entries.proofs.places_of.Tie as tie
 
 returns : tie.Need-returns
 unfolding placesOf

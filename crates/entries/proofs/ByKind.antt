@@ -1,7 +1,7 @@
 -- What holds of each kind, one by one, holds of every kind. Assumes nothing.
 use Prim.Native.Nat.{ℕ, zero, suc, _≤_}
 use native.Mathlib.Omega.{arith}
-use Rattle.contents.specs.Layout.{lastKind}
+use Rattle.entries.specs.Layout.{lastKind}
 
 pub by-kind : (P : ℕ → Type 0) → P 1 → P 2 → P 3 → P 4 → P 5 → P 6 → (kind : ℕ) → 1 ≤ kind → kind ≤ lastKind → P kind
 by-kind P a b c d e f zero l h = absurd (omega arith)

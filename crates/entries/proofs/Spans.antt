@@ -1,17 +1,13 @@
 -- The words of a body: few enough to add up, and the next body is due where this one ends. Assumes nothing.
-use mathlib.Core.Path.{_≡_, refl}
-use mathlib.Core.Bool.{Bool, true, false}
+use mathlib.Core.Path.{_≡_}
 use mathlib.Core.List.{List}
 use Prim.Native.Nat.{ℕ, zero, suc, _+_, _*_, _<_, _≤_}
 use native.Mathlib.Nat.{mul-le-mul-left}
 use native.Mathlib.Numerals.{add-one}
 use native.Mathlib.Omega.{arith}
 use lib.Dec.{lit≤}
-use Rattle.words.specs.Ladder.{need}
-use Rattle.contents.specs.Layout.{widthOf, lastKind}
-use Rattle.contents.specs.Entries.{kindAt, rowsAt, spanAt, dueAt}
-use Rattle.contents.specs.Contents.{within, entryFault}
-use Rattle.contents.proofs.Limits.{within-true}
+use Rattle.entries.specs.Layout.{widthOf}
+use Rattle.entries.specs.Entries.{kindAt, rowsAt, spanAt, dueAt}
 
 pub width-small : (kind : ℕ) → widthOf kind ≤ 8
 width-small zero = lit≤ tt
@@ -32,12 +28,3 @@ span-is s e kind rows width k r w = cc
 pub due-next : (s : List ℕ) (e due span : ℕ) → due ≡ dueAt s e → span ≡ spanAt s e → due + span ≡ dueAt s (e + 1)
 unfolding dueAt
 due-next s e due span d p = rw add-one (cc)
-
--- an entry with no fault names a kind that there is
-pub fault-known : (s : List ℕ) (e x : ℕ) → x ≡ entryFault s e → x ≡ 0 → kindAt s e ≤ lastKind
-unfolding entryFault need
-fault-known s e x p z = pick (within 1 (kindAt s e) lastKind) refl
-  where
-    pick : (k : Bool) → within 1 (kindAt s e) lastKind ≡ k → kindAt s e ≤ lastKind
-    pick true q = within-true 1 (kindAt s e) lastKind q .1
-    pick false q = let two : _≡_ {A = ℕ} 2 0 = cc in absurd (omega arith)

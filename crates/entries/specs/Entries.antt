@@ -7,9 +7,9 @@ use Prim.Native.Nat.{ℕ, zero, suc, _+_, _*_}
 use lib.Dec.{eqb}
 use Rattle.words.specs.Words.{unsignedAt}
 use Rattle.words.specs.Parts.{partOf}
-use Rattle.contents.specs.declared.Place.{Place}
-use Rattle.contents.specs.declared.Places.{Places}
-use Rattle.contents.specs.Layout.{entryCount, entryWords, firstBody, widthOf, zone, latitude, longitude, northing, easting, scale}
+use Rattle.entries.specs.declared.Place.{Place}
+use Rattle.entries.specs.declared.Places.{Places}
+use Rattle.entries.specs.Layout.{entryCount, entryWords, firstBody, widthOf, zone, latitude, longitude, northing, easting, scale}
 
 -- "each three words: kind, start (a word number), rows", after word 0
 abbrev pub kindAt : List ℕ → ℕ → ℕ

@@ -5,7 +5,7 @@ use mathlib.Core.List.{List}
 use Prim.Native.Nat.{ℕ, suc, _-_, _<_, _≤_}
 use native.Mathlib.Omega.{arith}
 use borrow.Author.Tests.{eq-eqb, ne-eqb}
-use Rattle.contents.specs.Entries.{kindAt, named, entryOf}
+use Rattle.entries.specs.Entries.{kindAt, named, entryOf}
 
 module _ (s : List ℕ) (kind n i : ℕ) (l : n ≡ suc i) where
   one-named : kindAt s i ≡ kind → named s kind n ≡ true

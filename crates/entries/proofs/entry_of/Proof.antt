@@ -1,25 +1,25 @@
--- `contents::is_named` meets its contract. Assumes nothing.
+-- `entries::entry_of` meets its contract. Assumes nothing.
 use native.Mathlib.Omega.{arith}
 use borrow.Author.Needs.{needs}
 use mathlib.Core.Path.{_≡_}
 use Prim.Native.Nat.{_≤_}
-use Rattle.contents.specs.Layout.{entryCount}
-use Rattle.contents.specs.Entries.{named}
-use Rattle.contents.proofs.Search.{named-here, named-on, named-end}
-use Rattle.contents.proofs.is_named.Statement.{statement}
-use Rattle.contents.proofs.is_named.Tie as tie
+use Rattle.entries.specs.Layout.{entryCount}
+use Rattle.entries.specs.Entries.{entryOf}
+use Rattle.entries.proofs.Search.{found-here, found-on, found-end}
+use Rattle.entries.proofs.entry_of.Statement.{statement}
+use Rattle.entries.proofs.entry_of.Tie as tie
 
 abbrev Inv-loop : tie.InvT-loop
-Inv-loop s kind n e₀ e = (e ≤ entryCount) × (named s kind n ≡ named s kind e)
+Inv-loop s kind e₀ e = (e ≤ entryCount) × (entryOf s kind entryCount ≡ entryOf s kind e)
 
 abbrev μ-loop : tie.MeasureT-loop
-μ-loop s kind n e₀ e = e
+μ-loop s kind e₀ e = e
 
 returns : tie.Need-returns Inv-loop μ-loop
-returns c = search named-here
+returns c = (search found-here, omega arith)
 
 returns-2 : tie.Need-returns-2 Inv-loop μ-loop
-returns-2 c = search named-end
+returns-2 c = (search found-end, omega arith)
 
 loop-holds : tie.Need-loop-holds Inv-loop μ-loop
 loop-holds c = search needs
@@ -34,10 +34,10 @@ loop-less : tie.Need-loop-less Inv-loop μ-loop
 loop-less c = search needs
 
 loop-again : tie.Need-loop-again Inv-loop μ-loop
-loop-again c = (omega arith, search named-on)
+loop-again c = (omega arith, search found-on)
 
-pub is-named-spec : {M : Type 1} → statement M
-is-named-spec =
+pub entry-of-spec : {M : Type 1} → statement M
+entry-of-spec =
     tie.close
     (tie.spec
     Inv-loop

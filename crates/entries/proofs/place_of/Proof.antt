@@ -1,7 +1,7 @@
--- `contents::place_of` meets its contract. Assumes nothing.
+-- `entries::place_of` meets its contract. Assumes nothing.
 use borrow.Author.Needs.{needs}
-use Rattle.contents.proofs.place_of.Statement.{statement}
-use Rattle.contents.proofs.place_of.Tie as tie
+use Rattle.entries.proofs.place_of.Statement.{statement}
+use Rattle.entries.proofs.place_of.Tie as tie
 
 returns : tie.Need-returns
 returns c = cc

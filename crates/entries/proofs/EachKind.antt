@@ -6,9 +6,9 @@ use Prim.Native.Nat.{ℕ, zero, suc, _+_, _<_, _≤_}
 use native.Mathlib.Omega.{arith}
 use lib.Dec.{eqb}
 use borrow.Author.Tests.{eqb-true}
-use Rattle.contents.specs.Layout.{entryCount, lastKind}
-use Rattle.contents.specs.Entries.{kindAt, named, entryOf}
-use Rattle.contents.proofs.ByKind.{by-kind}
+use Rattle.entries.specs.Layout.{entryCount, lastKind}
+use Rattle.entries.specs.Entries.{kindAt, named, entryOf}
+use Rattle.entries.proofs.ByKind.{by-kind}
 
 -- 1 where the kind is k, and how many of the first n entries name k
 abbrev hit : ℕ → ℕ → ℕ

@@ -1,10 +1,10 @@
--- `contents::span_at` meets its contract. Assumes nothing.
+-- `entries::span_at` meets its contract. Assumes nothing.
 use Prim.Native.Nat.{_*_, _<_}
-use Rattle.contents.proofs.Spans.{span-small, span-is}
+use Rattle.entries.proofs.Spans.{span-small, span-is}
 use native.Mathlib.Omega.{arith}
 use borrow.Author.Needs.{needs}
-use Rattle.contents.proofs.span_at.Statement.{statement}
-use Rattle.contents.proofs.span_at.Tie as tie
+use Rattle.entries.proofs.span_at.Statement.{statement}
+use Rattle.entries.proofs.span_at.Tie as tie
 
 returns : tie.Need-returns
 returns c = (search span-is, search span-small)

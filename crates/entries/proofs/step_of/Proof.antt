@@ -1,8 +1,8 @@
--- `contents::step_of` meets its contract. Assumes nothing.
-use Rattle.contents.proofs.ByTable.{step-none}
+-- `entries::step_of` meets its contract. Assumes nothing.
+use Rattle.entries.proofs.ByTable.{step-none}
 use borrow.Author.Needs.{needs}
-use Rattle.contents.proofs.step_of.Statement.{statement}
-use Rattle.contents.proofs.step_of.Tie as tie
+use Rattle.entries.proofs.step_of.Statement.{statement}
+use Rattle.entries.proofs.step_of.Tie as tie
 
 returns : tie.Need-returns
 returns c = search needs
