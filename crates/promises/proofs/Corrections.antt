@@ -28,9 +28,10 @@ use Rattle.tables.proofs.Parts.{contents-none}
 use Rattle.reading.specs.Rows.{RisesBy}
 use Rattle.tables.proofs.Ranges.{latitude-some, y0-rises}
 use Rattle.extent.specs.Extent.{latitudeKnown, longitudeKnown, xPrime, eastingKnown, northingKnown, reducedKnown}
-use Rattle.convert.specs.Forward.{forwardOf, geographicToPlane}
-use Rattle.convert.specs.Inverse.{reducedNorthing, inverseOf, planeToGeographic}
-use Rattle.convert.specs.Grid.{gridOf, convergenceAndScale}
+use Rattle.forward.specs.Forward.{forwardOf}
+use Rattle.inverse.specs.Inverse.{reducedNorthing, inverseOf}
+use Rattle.grid.specs.Grid.{gridOf}
+use Rattle.convert.specs.Conversions.{geographicToPlane, planeToGeographic, convergenceAndScale}
 use Rattle.convert.proofs.Checked.{forward-passes, inverse-passes, grid-passes, after-pass}
 use Rattle.correct.specs.Correction.{fromFirstMinute, hasRow, judgedBy, correctionOf, correctedOf}
 use Rattle.correct.proofs.Place.{row-there}

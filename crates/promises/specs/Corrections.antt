@@ -16,9 +16,9 @@ use Rattle.rows.specs.Rows.{figuresAt, rowAt}
 use Rattle.bodies.specs.Check.{checkOf}
 use Rattle.tables.specs.Figures.{y0Of}
 use Rattle.extent.specs.Extent.{xPrime, eastingKnown, northingKnown}
-use Rattle.convert.specs.Forward.{forwardOf, geographicToPlane}
-use Rattle.convert.specs.Inverse.{reducedNorthing, inverseOf, planeToGeographic}
-use Rattle.convert.specs.Grid.{convergenceAndScale}
+use Rattle.forward.specs.Forward.{forwardOf}
+use Rattle.inverse.specs.Inverse.{reducedNorthing, inverseOf}
+use Rattle.convert.specs.Conversions.{geographicToPlane, planeToGeographic, convergenceAndScale}
 use Rattle.correct.specs.Correction.{correctionOf, withRow, correctedOf}
 use Rattle.touched.specs.Touched.{touch, hasMinute, rowNamed, geographicTouched, planeTouched}
 

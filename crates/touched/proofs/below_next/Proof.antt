@@ -9,7 +9,7 @@ use Rattle.figures.proofs.Holds.{held-literal, sum, sum-fits}
 use Rattle.entries.specs.Layout.{latitude}
 use Rattle.entries.specs.Entries.{rowsOf}
 use Rattle.extent.proofs.Counts.{count-is}
-use Rattle.convert.proofs.Bits.{bits-is}
+use Rattle.figures.proofs.Bits.{bits-is}
 use Rattle.touched.proofs.Beside.{below-is, to-greatest, next-fits, two-rows, y0-held}
 use borrow.Author.Needs.{needs}
 use Rattle.touched.proofs.below_next.Statement.{statement}
