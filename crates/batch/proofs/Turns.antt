@@ -14,9 +14,7 @@ use Rattle.words.specs.Ladder.{need}
 use Rattle.words.proofs.Refusals.{stop, go, is, is-not, refused, passed-on}
 use Rattle.bodies.specs.Check.{checkOf}
 use Rattle.extent.specs.Extent.{latitudeKnown, longitudeKnown}
-use Rattle.convert.specs.Forward.{planeAt, forwardOf, geographicToPlane}
-use Rattle.convert.specs.Answers.{noPlane}
-use Rattle.convert.proofs.Checked.{after-pass}
+use Rattle.forward.specs.Forward.{noPlane, planeAt, forwardOf}
 use Rattle.batch.specs.Batch.{oneIfAnswered, pairs, pointAt, wordsOf, words, answered, afterPairs, taken, batched, batchOf, answersOf}
 
 -- ---- vs stored behind t, where the old list's tail begins
@@ -43,19 +41,15 @@ module _ (s : List ℕ) (points : List ℤ) where
   unfolding answered
   counted i = rw (add-one i)
 
--- ---- a conversion's number is a small one on a sheet that passes
-number-most : (s : List ℕ) (a b : ℤ) → forwardOf s a b .number < 2_147_483_648
+-- ---- a conversion's own number is a small one
+pub number-small : (s : List ℕ) (a b : ℤ) → forwardOf s a b .number < 2_147_483_648
 unfolding forwardOf need planeAt
-number-most s a b = go (latitudeKnown s a) (longitudeKnown s b)
+number-small s a b = go (latitudeKnown s a) (longitudeKnown s b)
   where
     go : (p q : Bool) → need p (noPlane 10) (need q (noPlane 11) (planeAt s a b)) .number < 2_147_483_648
     go false q = omega arith
     go true false = omega arith
     go true true = omega arith
-
-pub number-small : (s : List ℕ) (a b : ℤ) → checkOf s .number ≡ 0 → geographicToPlane s a b .number < 2_147_483_648
-unfolding geographicToPlane
-number-small s a b z = rw (after-pass (λ r. r .number) noPlane (λ n. refl) s (forwardOf s a b) z) (number-most s a b)
 
 -- ---- which batches are taken
 after : (a : Bool) → a && false ≡ false

@@ -7,8 +7,8 @@ use lib.ListN.{length, getD, drop}
 use lib.Dec.{leb, eqb}
 use Rattle.words.specs.Ladder.{need, orElse, whereIs}
 use Rattle.bodies.specs.Check.{checkOf}
-use Rattle.convert.specs.declared.Plane.{Plane}
-use Rattle.convert.specs.Forward.{geographicToPlane}
+use Rattle.forward.specs.declared.Plane.{Plane}
+use Rattle.convert.specs.Conversions.{geographicToPlane}
 use Rattle.batch.specs.declared.Batched.{Batched}
 
 -- "Pairs of 32-bit latitude and longitude": how many, and point i of them.

@@ -1,6 +1,6 @@
 // Many points at once, geographic to plane, over lent memory: pairs of latitude and longitude are read, three words a point are written. The sheet is checked once and
 // its places are worked once.
-use contents::Places;
+use entries::Places;
 ghost use mathlib.Core.Path.{_≡_};
 ghost use mathlib.Core.Bool.{true};
 ghost use mathlib.Core.List.{_∷_, []};
@@ -8,7 +8,7 @@ ghost use Prim.Native.Nat.{_+_, _*_, _≤_, _<_};
 ghost use lib.IntN.{pos};
 ghost use lib.ListN.{length};
 ghost use lib.Seq.{sets};
-ghost use Rattle.contents.specs.Entries.{placesOf};
+ghost use Rattle.entries.specs.Entries.{placesOf};
 ghost use Rattle.bodies.specs.Check.{checkOf};
 ghost use Rattle.batch.specs.Batch.{oneIfAnswered, pointAt, wordsOf, pairs, answered, afterPairs, taken, batchOf, answersOf};
 
@@ -49,7 +49,7 @@ fn answer_one(s: &[u8], p: Places, points: &[i32], answers: &mut [i32], i: usize
     requires { ⌜ (checkOf (now s) .number ≡ 0) × (p ≡ placesOf (now s)) × (2 * i + 1 < length (now points)) × (3 * i + 3 ≤ length (now answers)) ⌝ }
     ensures { λ n. ⌜ (n ≡ oneIfAnswered (pointAt (now (s .entry)) (now (points .entry)) i .number)) × (n ≤ 1) × (now (answers .exit) ≡ sets (now (answers .entry)) (3 * i) (wordsOf (pointAt (now (s .entry)) (now (points .entry)) i))) ⌝ }
 {
-    let r = convert::forward(s, p, points[2 * i], points[2 * i + 1]);
+    let r = forward::forward(s, p, points[2 * i], points[2 * i + 1]);
     put(answers, 3 * i, r.number, r.x, r.y)
 }
 
@@ -84,6 +84,6 @@ pub fn batch(sheet: &[u8], points: &[i32], answers: &mut [i32]) -> Batched
     if number != 0 {
         return Batched { number, count: 0 };
     }
-    let count = answer_all(sheet, contents::places_of(sheet), points, answers);
+    let count = answer_all(sheet, entries::places_of(sheet), points, answers);
     Batched { number: 0, count }
 }

@@ -8,7 +8,7 @@ use Rattle.words.specs.declared.Fault.{Fault}
 use Rattle.words.specs.Ladder.{orElse}
 use Rattle.words.proofs.Refusals.{refused, passed-on}
 use Rattle.contents.specs.declared.Verdict.{Verdict}
-use Rattle.contents.specs.Layout.{lastKind}
+use Rattle.entries.specs.Layout.{lastKind}
 use Rattle.contents.specs.Contents.{verdict, numberOf, contentsOf}
 use Rattle.bodies.specs.Check.{faultOf, inKind, bodiesOf, checkOf}
 

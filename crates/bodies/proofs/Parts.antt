@@ -9,9 +9,9 @@ use mir.Val.{Fits}
 use Rattle.words.specs.declared.Fault.{Fault}
 use Rattle.words.specs.Faults.{firstFault}
 use Rattle.words.proofs.PartWords.{part-is}
-use Rattle.contents.specs.declared.Place.{Place}
-use Rattle.contents.specs.Layout.{lastKind, leastBytes, mostBytes, widthOf}
-use Rattle.contents.specs.Entries.{placeOf}
+use Rattle.entries.specs.declared.Place.{Place}
+use Rattle.entries.specs.Layout.{lastKind, leastBytes, mostBytes, widthOf}
+use Rattle.entries.specs.Entries.{placeOf}
 use Rattle.contents.specs.Contents.{contentsOf}
 use Rattle.contents.proofs.Passing.{passed, rows-some, body-within}
 use Rattle.bodies.specs.Check.{rowFault, faultOf}

@@ -8,8 +8,8 @@ use Rattle.words.specs.Ladder.{whereIs}
 use Rattle.words.specs.Faults.{fault}
 use Rattle.words.proofs.FirstFault.{all-pass, no-fault}
 use Rattle.words.proofs.Refusals.{each-passes, passed-on}
-use Rattle.contents.specs.Layout.{lastKind, zone, latitude, longitude, northing, easting, scale}
-use Rattle.contents.specs.Entries.{rowsOf, bodyOf}
+use Rattle.entries.specs.Layout.{lastKind, zone, latitude, longitude, northing, easting, scale}
+use Rattle.entries.specs.Entries.{rowsOf, bodyOf}
 use Rattle.contents.specs.Contents.{verdict, numberOf, contentsOf}
 use Rattle.contents.proofs.Passing.{contents-pass}
 use Rattle.bodies.specs.Check.{rowFault, faultOf, inKind, bodiesOf, checkOf}

@@ -5,8 +5,8 @@ use Rattle.words.specs.declared.Fault.{Fault}
 use Rattle.words.specs.Ladder.{orElse, whereIs}
 use Rattle.words.specs.Faults.{firstFault}
 use Rattle.contents.specs.declared.Verdict.{Verdict}
-use Rattle.contents.specs.Layout.{lastKind, zone, latitude, longitude, northing, easting}
-use Rattle.contents.specs.Entries.{rowsOf, bodyOf}
+use Rattle.entries.specs.Layout.{lastKind, zone, latitude, longitude, northing, easting}
+use Rattle.entries.specs.Entries.{rowsOf, bodyOf}
 use Rattle.contents.specs.Contents.{verdict, numberOf, contentsOf}
 use Rattle.rows.specs.Rows.{latitudeFault}
 use Rattle.small_rows.specs.SmallRows.{zoneFault, longitudeFault, northingFault, eastingFault, scaleFault}

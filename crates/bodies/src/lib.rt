@@ -5,7 +5,7 @@ ghost use mathlib.Core.Path.{_≡_};
 ghost use Prim.Native.Nat.{_*_, _<_, _≤_};
 ghost use lib.ListN.{length};
 ghost use Rattle.words.specs.Faults.{firstFault};
-ghost use Rattle.contents.specs.Layout.{latitude, lastKind, widthOf};
+ghost use Rattle.entries.specs.Layout.{latitude, lastKind, widthOf};
 ghost use Rattle.contents.specs.Contents.{contentsOf};
 ghost use Rattle.rows.specs.Rows.{latitudeFault};
 ghost use Rattle.bodies.specs.Check.{rowFault, faultOf, checkOf};
@@ -15,16 +15,16 @@ fn row_fault(kind: usize, b: &[u8], n: usize, i: usize) -> u32
     requires { ⌜ (1 ≤ kind) × (kind ≤ lastKind) × (kind ≡ latitude → ⊥) × (4 * (n * widthOf kind) ≤ length (now b)) × (i < n) ⌝ }
     ensures { λ r. ⌜ r ≡ rowFault kind (now (b .entry)) n i ⌝ }
 {
-    if kind == contents::ZONE {
+    if kind == entries::ZONE {
         return small_rows::zone_row(b, i);
     }
-    if kind == contents::LONGITUDE {
+    if kind == entries::LONGITUDE {
         return small_rows::longitude_row(b, n, i);
     }
-    if kind == contents::NORTHING {
+    if kind == entries::NORTHING {
         return small_rows::northing_row(b, i);
     }
-    if kind == contents::EASTING {
+    if kind == entries::EASTING {
         return small_rows::easting_row(b, i);
     }
     small_rows::scale_row(b, i)
@@ -80,7 +80,7 @@ fn body(kind: usize, b: &[u8], n: usize) -> Fault
     requires { ⌜ (1 ≤ kind) × (kind ≤ lastKind) × (4 * (n * widthOf kind) ≤ length (now b)) × (0 < n) ⌝ }
     ensures { λ r. ⌜ r ≡ firstFault (rowFault kind (now (b .entry)) n) n 0 ⌝ }
 {
-    if kind == contents::LATITUDE {
+    if kind == entries::LATITUDE {
         return latitude(b, n);
     }
     table(kind, b, n)
@@ -91,9 +91,9 @@ fn body_of(s: &[u8], kind: usize) -> Fault
     requires { ⌜ (contentsOf (now s) .number ≡ 0) × (1 ≤ kind) × (kind ≤ lastKind) ⌝ }
     ensures { λ r. ⌜ r ≡ faultOf (now (s .entry)) kind ⌝ }
 {
-    let p = contents::place_of(s, kind);
+    let p = entries::place_of(s, kind);
     let n = p.rows;
-    let w = n * contents::width_of(kind);
+    let w = n * entries::width_of(kind);
     let a = 4 * p.start;
     let z = a + 4 * w;
     body(kind, &s[a..z], n)
@@ -108,8 +108,8 @@ pub fn check(sheet: &[u8]) -> Verdict
     if number != 0 {
         return c;
     }
-    let mut kind = contents::ZONE;
-    while kind <= contents::LAST_KIND {
+    let mut kind = entries::ZONE;
+    while kind <= entries::LAST_KIND {
         let f = body_of(sheet, kind);
         let number = f.number;
         let row = f.place;

@@ -11,15 +11,16 @@ use Rattle.rules.specs.Limits.{inRange, rises, sameAs}
 use Rattle.rules.specs.Latitude.{figuresInRange, withinBounds, differencesOf, noDifferences, sameDifferences}
 use Rattle.rows.specs.Rows.{figuresAt, differencesAt, rowInRange, pairFault, lastFault, latitudeFault}
 use Rattle.small_rows.specs.SmallRows.{zeroFirst, zoneFault, longitudeFault, northingFault, eastingFault, scaleFault}
-use Rattle.contents.specs.Entries.{named, dueAt, entryOf}
+use Rattle.entries.specs.Entries.{named, dueAt, entryOf}
 use Rattle.contents.specs.Contents.{within, entryFault, sized, contentsOf}
 use Rattle.bodies.specs.Check.{rowFault, bodiesOf, checkOf}
 use Rattle.reading.specs.Tables.{pastRow, valueAt, withinRows}
 use Rattle.reading.specs.Rows.{lastNotAbove}
 use Rattle.tables.specs.Figures.{centralMeridian, falseEasting, firstLatitude, y0Of, y0At, hAt, vAt, aAt, bAt, cAt, pAt, dAt}
 use Rattle.extent.specs.Extent.{fromFirst, latitudeKnown, lOf, sizeKnown, longitudeKnown, xPrime, eastingKnown, northingKnown, reducedKnown}
-use Rattle.convert.specs.Forward.{xSize, xOf, yOf, planeAt, forwardOf, geographicToPlane}
-use Rattle.convert.specs.Inverse.{reducedNorthing, rowOf, secondsPast, distanceOf, approximateOf, sizeOf, longitudeOf, geographicAt, fromDistance, fromReduced, inverseOf, planeToGeographic}
+use Rattle.forward.specs.Forward.{xSize, xOf, yOf, planeAt, forwardOf}
+use Rattle.inverse.specs.Inverse.{reducedNorthing, rowOf, secondsPast, distanceOf, approximateOf, sizeOf, longitudeOf, geographicAt, fromDistance, fromReduced, inverseOf}
+use Rattle.convert.specs.Conversions.{geographicToPlane, planeToGeographic}
 use Rattle.cases.specs.Bytes.{bytesOf}
 use Rattle.cases.specs.CaseSheet.{caseSheet}
 use Rattle.cases.specs.Cases.{Case, starred, harvey, kahela, kahelaBack, irish, irishBack, naper, from2048, row2048, h2048, halfM, halfA, minute31, listingG, listingP}

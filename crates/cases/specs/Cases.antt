@@ -6,10 +6,9 @@ use Rattle.figures.specs.Nearest.{withSign, nearest}
 use Rattle.figures.specs.Between.{between}
 use Rattle.figures.specs.Steps.{qOf, sizeOfX, rise, reduction, seconds, perSecond}
 use Rattle.rows.specs.Rows.{latitudeFault}
-use Rattle.convert.specs.declared.Plane.{Plane}
-use Rattle.convert.specs.declared.Geographic.{Geographic}
-use Rattle.convert.specs.Forward.{geographicToPlane}
-use Rattle.convert.specs.Inverse.{planeToGeographic}
+use Rattle.forward.specs.declared.Plane.{Plane}
+use Rattle.inverse.specs.declared.Geographic.{Geographic}
+use Rattle.convert.specs.Conversions.{geographicToPlane, planeToGeographic}
 use Rattle.cases.specs.Bytes.{bytesOf}
 use Rattle.cases.specs.CaseSheet.{caseSheet}
 

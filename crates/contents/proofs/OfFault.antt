@@ -8,7 +8,7 @@ use Rattle.words.specs.Faults.{firstFault}
 use Rattle.words.proofs.FirstFault.{place-small}
 use Rattle.words.proofs.Refusals.{refused, passed-on}
 use Rattle.contents.specs.declared.Verdict.{Verdict}
-use Rattle.contents.specs.Layout.{entryCount}
+use Rattle.entries.specs.Layout.{entryCount}
 use Rattle.contents.specs.Contents.{numberOf, inEntries, entryFault}
 
 module _ (f g : Fault) (y : Verdict) (e : f ≡ g) where

@@ -14,12 +14,12 @@ use Rattle.words.specs.Faults.{firstFault}
 use Rattle.words.proofs.FirstFault.{all-pass}
 use Rattle.words.proofs.PartWords.{length-partOf}
 use Rattle.words.proofs.Refusals.{rung, past, each-passes}
-use Rattle.contents.specs.Layout.{entryCount, lastKind, firstBody, leastBytes, mostBytes, widthOf, leastRows, mostRows}
-use Rattle.contents.specs.Entries.{kindAt, startAt, rowsAt, spanAt, named, dueAt, entryOf, startOf, rowsOf, bodyOf}
+use Rattle.entries.specs.Layout.{entryCount, lastKind, firstBody, leastBytes, mostBytes, widthOf, leastRows, mostRows}
+use Rattle.entries.specs.Entries.{kindAt, startAt, rowsAt, spanAt, named, dueAt, entryOf, startOf, rowsOf, bodyOf}
 use Rattle.contents.specs.Contents.{sized, ends, verdict, numberOf, inEntries, entryFault, contentsOf}
 use Rattle.contents.proofs.Limits.{within-true, sized-true}
-use Rattle.contents.proofs.ByKind.{by-kind}
-use Rattle.contents.proofs.EachKind.{each-kind}
+use Rattle.entries.proofs.ByKind.{by-kind}
+use Rattle.entries.proofs.EachKind.{each-kind}
 
 -- ---- an entry
 pub record Entry (s : List ℕ) (e : ℕ) : Type 0 where

@@ -9,8 +9,8 @@ use Rattle.words.specs.Words.{unsignedAt}
 use Rattle.words.specs.Ladder.{need, orElse}
 use Rattle.words.specs.Faults.{firstFault}
 use Rattle.contents.specs.declared.Verdict.{Verdict}
-use Rattle.contents.specs.Layout.{entryCount, lastKind, leastBytes, mostBytes, leastRows, mostRows}
-use Rattle.contents.specs.Entries.{kindAt, startAt, rowsAt, named, dueAt}
+use Rattle.entries.specs.Layout.{entryCount, lastKind, leastBytes, mostBytes, leastRows, mostRows}
+use Rattle.entries.specs.Entries.{kindAt, startAt, rowsAt, named, dueAt}
 
 -- "The check answers number, kind, row."
 abbrev pub verdict : ℕ → ℕ → ℕ → Verdict

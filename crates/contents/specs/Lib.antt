@@ -1,4 +1,2 @@
--- The definitions that `contents` and the crates above it cite: how a sheet is laid out, and the first fault of its contents.
-pub mod Layout
-pub mod Entries
+-- The definitions that `contents` and the crates above it cite: the first fault of a sheet's contents.
 pub mod Contents

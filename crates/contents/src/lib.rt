@@ -1,13 +1,13 @@
-// The contents of a sheet: its length, word 0, the six entries and the end, numbers 1 to 5; and where each kind's body lies.
+// The contents of a sheet: its length, word 0, the six entries and the end, numbers 1 to 5.
 use words::Fault;
 ghost use mathlib.Core.Path.{_≡_};
-ghost use Prim.Native.Nat.{_+_, _*_, _<_, _≤_};
+ghost use Prim.Native.Nat.{_<_, _≤_};
 ghost use lib.ListN.{length};
 ghost use lib.Dec.{eqb};
 ghost use Rattle.words.specs.Words.{unsignedAt};
 ghost use Rattle.words.specs.Faults.{firstFault};
-ghost use Rattle.contents.specs.Layout.{entryCount, lastKind, leastBytes, widthOf, stepOf, leastRows, mostRows};
-ghost use Rattle.contents.specs.Entries.{kindAt, startAt, rowsAt, spanAt, named, dueAt, entryOf, startOf, rowsOf, placeOf, placesOf};
+ghost use Rattle.entries.specs.Layout.{entryCount, lastKind, leastBytes, leastRows, mostRows};
+ghost use Rattle.entries.specs.Entries.{kindAt, startAt, rowsAt, dueAt};
 ghost use Rattle.contents.specs.Contents.{within, entryFault, sized, ends, contentsOf};
 
 // The check's answer. A pass is 0 0 0; a fault of length, word 0 or contents has kind 0 and, as row, the entry's place counted from 1.
@@ -17,116 +17,12 @@ pub struct Verdict {
     pub row: usize,
 }
 
-// Where a kind's body lies: the word at which it starts, and its rows.
-pub struct Place {
-    pub start: usize,
-    pub rows: usize,
-}
-
-// Where each kind's body lies.
-pub struct Places {
-    pub zone: Place,
-    pub latitude: Place,
-    pub longitude: Place,
-    pub northing: Place,
-    pub easting: Place,
-    pub scale: Place,
-}
-
-// The layout: entries, the words of one, the first body's word, and the lengths in bytes.
-const ENTRIES: usize = 6;
-
-const ENTRY_WORDS: usize = 3;
-
+// The layout: the first body's word, and the lengths in bytes.
 const FIRST_BODY: usize = 19;
 
 const LEAST_BYTES: usize = 76;
 
 const MOST_BYTES: usize = 65_532;
-
-// The kinds.
-pub const ZONE: usize = 1;
-
-pub const LATITUDE: usize = 2;
-
-pub const LONGITUDE: usize = 3;
-
-pub const NORTHING: usize = 4;
-
-pub const EASTING: usize = 5;
-
-pub const SCALE: usize = 6;
-
-pub const LAST_KIND: usize = SCALE;
-
-// By kind: least rows, most rows. There is no kind 0.
-const LEAST_ROWS: [usize; 7] = [0, 1, 2, 2, 2, 2, 2];
-
-const MOST_ROWS: [usize; 7] = [0, 1, 1_200, 61, 100, 10, 200];
-
-// Words in a row of the kind. This and the step are chains, not arrays: where the kind is known beforehand nothing is left of them.
-pub fn width_of(kind: usize) -> usize
-    requires { ⌜ kind ≤ lastKind ⌝ }
-    ensures { λ r. ⌜ r ≡ widthOf kind ⌝ }
-{
-    if kind == 0 {
-        return 0;
-    }
-    if kind == LATITUDE {
-        return 8;
-    }
-    if kind < EASTING {
-        return 2; // zone, longitude and northing
-    }
-    1
-}
-
-// The step from a row of the kind to the next, in the point's unit.
-pub fn step_of(kind: usize) -> u64
-    requires { ⌜ kind ≤ lastKind ⌝ }
-    ensures { λ r. ⌜ r ≡ stepOf kind ⌝ }
-{
-    if kind == LATITUDE {
-        return 60_000;
-    }
-    if kind == LONGITUDE {
-        return 100_000;
-    }
-    if kind == NORTHING {
-        return 10_000_000;
-    }
-    if kind == EASTING {
-        return 5_000_000;
-    }
-    if kind == SCALE {
-        return 500_000;
-    }
-    0
-}
-
-// The least rows that the kind may have.
-fn least_rows(kind: usize) -> usize
-    requires { ⌜ kind ≤ lastKind ⌝ }
-    ensures { λ r. ⌜ r ≡ leastRows kind ⌝ }
-{
-    LEAST_ROWS[kind]
-}
-
-// The most rows that the kind may have.
-fn most_rows(kind: usize) -> usize
-    requires { ⌜ kind ≤ lastKind ⌝ }
-    ensures { λ r. ⌜ r ≡ mostRows kind ⌝ }
-{
-    MOST_ROWS[kind]
-}
-
-// Word i as a size, read without its sign.
-fn size_at(s: &[u8], i: usize) -> usize
-    requires { ⌜ 4 * i + 4 ≤ length (now s) ⌝ }
-    ensures { λ r. ⌜ (r ≡ unsignedAt (now (s .entry)) i) × (r < 4_294_967_296) ⌝ }
-{
-    words::unsigned_word(s, i) as usize
-}
 
 // Whether n is from least to most.
 fn is_within(least: usize, n: usize, most: usize) -> bool
@@ -142,59 +38,12 @@ fn same(a: usize, b: usize) -> bool
     a == b
 }
 
-// Entry e's kind.
-fn kind_at(s: &[u8], e: usize) -> usize
-    requires { ⌜ (leastBytes ≤ length (now s)) × (e < entryCount) ⌝ }
-    ensures { λ r. ⌜ (r ≡ kindAt (now (s .entry)) e) × (r < 4_294_967_296) ⌝ }
-{
-    size_at(s, ENTRY_WORDS * e + 1)
-}
-
-// The word at which entry e has its body start.
-fn start_at(s: &[u8], e: usize) -> usize
-    requires { ⌜ (leastBytes ≤ length (now s)) × (e < entryCount) ⌝ }
-    ensures { λ r. ⌜ (r ≡ startAt (now (s .entry)) e) × (r < 4_294_967_296) ⌝ }
-{
-    size_at(s, ENTRY_WORDS * e + 2)
-}
-
-// Entry e's rows.
-fn rows_at(s: &[u8], e: usize) -> usize
-    requires { ⌜ (leastBytes ≤ length (now s)) × (e < entryCount) ⌝ }
-    ensures { λ r. ⌜ (r ≡ rowsAt (now (s .entry)) e) × (r < 4_294_967_296) ⌝ }
-{
-    size_at(s, ENTRY_WORDS * e + 3)
-}
-
 // Whether entry e names a kind that there is.
 fn names_kind(s: &[u8], e: usize) -> bool
     requires { ⌜ (leastBytes ≤ length (now s)) × (e < entryCount) ⌝ }
     ensures { λ r. ⌜ r ≡ within 1 (kindAt (now (s .entry)) e) lastKind ⌝ }
 {
-    is_within(1, kind_at(s, e), LAST_KIND)
-}
-
-// Whether one of the first n entries names the kind.
-fn is_named(s: &[u8], kind: usize, n: usize) -> bool
-    requires { ⌜ (leastBytes ≤ length (now s)) × (n ≤ entryCount) ⌝ }
-    ensures { λ r. ⌜ r ≡ named (now (s .entry)) kind n ⌝ }
-{
-    let mut e = n;
-    while 0 < e {
-        e -= 1;
-        if kind_at(s, e) == kind {
-            return true;
-        }
-    }
-    false
-}
-
-// Whether an entry before e names e's kind.
-fn named_before(s: &[u8], e: usize) -> bool
-    requires { ⌜ (leastBytes ≤ length (now s)) × (e < entryCount) ⌝ }
-    ensures { λ r. ⌜ r ≡ named (now (s .entry)) (kindAt (now (s .entry)) e) e ⌝ }
-{
-    is_named(s, kind_at(s, e), e)
+    is_within(1, entries::kind_at(s, e), entries::LAST_KIND)
 }
 
 // Whether entry e's rows are within its kind's limits.
@@ -202,8 +51,12 @@ fn rows_allowed(s: &[u8], e: usize) -> bool
     requires { ⌜ (leastBytes ≤ length (now s)) × (e < entryCount) × (kindAt (now s) e ≤ lastKind) ⌝ }
     ensures { λ r. ⌜ r ≡ within (leastRows (kindAt (now (s .entry)) e)) (rowsAt (now (s .entry)) e) (mostRows (kindAt (now (s .entry)) e)) ⌝ }
 {
-    let kind = kind_at(s, e);
-    is_within(least_rows(kind), rows_at(s, e), most_rows(kind))
+    let kind = entries::kind_at(s, e);
+    is_within(
+        entries::least_rows(kind),
+        entries::rows_at(s, e),
+        entries::most_rows(kind),
+    )
 }
 
 // Whether entry e has its body start at the word due, where it has to.
@@ -211,7 +64,7 @@ fn starts_at(s: &[u8], e: usize, due: usize) -> bool
     requires { ⌜ (leastBytes ≤ length (now s)) × (e < entryCount) × (due ≡ dueAt (now s) e) ⌝ }
     ensures { λ r. ⌜ r ≡ eqb (startAt (now (s .entry)) e) (dueAt (now (s .entry)) e) ⌝ }
 {
-    same(start_at(s, e), due)
+    same(entries::start_at(s, e), due)
 }
 
 // The number of entry e's fault, 0 for none; due is the word at which its body has to start.
@@ -222,7 +75,7 @@ fn entry_fault(s: &[u8], e: usize, due: usize) -> u32
     if !names_kind(s, e) {
         return 2;
     }
-    if named_before(s, e) {
+    if entries::named_before(s, e) {
         return 3;
     }
     if !rows_allowed(s, e) {
@@ -234,14 +87,6 @@ fn entry_fault(s: &[u8], e: usize, due: usize) -> u32
     0
 }
 
-// The words of entry e's body.
-fn span_at(s: &[u8], e: usize) -> usize
-    requires { ⌜ (leastBytes ≤ length (now s)) × (e < entryCount) × (kindAt (now s) e ≤ lastKind) ⌝ }
-    ensures { λ r. ⌜ (r ≡ spanAt (now (s .entry)) e) × (r < 34_359_738_368) ⌝ }
-{
-    rows_at(s, e) * width_of(kind_at(s, e))
-}
-
 // The first fault of the entries.
 fn entries(s: &[u8]) -> Fault
     requires { ⌜ leastBytes ≤ length (now s) ⌝ }
@@ -249,12 +94,12 @@ fn entries(s: &[u8]) -> Fault
 {
     let mut due = FIRST_BODY;
     let mut e = 0;
-    while e < ENTRIES {
+    while e < entries::ENTRIES {
         let number = entry_fault(s, e, due);
         if number != 0 {
             return Fault { number, place: e };
         }
-        due += span_at(s, e);
+        due += entries::span_at(s, e);
         e += 1;
     }
     Fault {
@@ -268,8 +113,8 @@ fn ends_sheet(s: &[u8]) -> bool
     requires { ⌜ (leastBytes ≤ length (now s)) × (firstFault (entryFault (now s)) entryCount 0 .number ≡ 0) ⌝ }
     ensures { λ r. ⌜ r ≡ ends (now (s .entry)) ⌝ }
 {
-    let last = ENTRIES - 1;
-    let end = start_at(s, last) + span_at(s, last);
+    let last = entries::ENTRIES - 1;
+    let end = entries::start_at(s, last) + entries::span_at(s, last);
     same(4 * end, s.len())
 }
 
@@ -286,7 +131,7 @@ fn counts_entries(s: &[u8]) -> bool
     requires { ⌜ leastBytes ≤ length (now s) ⌝ }
     ensures { λ r. ⌜ r ≡ eqb (unsignedAt (now (s .entry)) 0) entryCount ⌝ }
 {
-    same(size_at(s, 0), ENTRIES)
+    same(entries::size_at(s, 0), entries::ENTRIES)
 }
 
 // The first fault of length, word 0, the entries and the end.
@@ -320,54 +165,12 @@ pub fn contents(s: &[u8]) -> Verdict
         return Verdict {
             number: 5,
             kind: 0,
-            row: ENTRIES + 1,
+            row: entries::ENTRIES + 1,
         };
     }
     Verdict {
         number: 0,
         kind: 0,
         row: 0,
-    }
-}
-
-// Which entry names the kind.
-fn entry_of(s: &[u8], kind: usize) -> usize
-    requires { ⌜ leastBytes ≤ length (now s) ⌝ }
-    ensures { λ r. ⌜ (r ≡ entryOf (now (s .entry)) kind entryCount) × (r < entryCount) ⌝ }
-{
-    let mut e = ENTRIES;
-    while 0 < e {
-        e -= 1;
-        if kind_at(s, e) == kind {
-            return e;
-        }
-    }
-    0
-}
-
-// Where the kind's body lies.
-pub fn place_of(s: &[u8], kind: usize) -> Place
-    requires { ⌜ leastBytes ≤ length (now s) ⌝ }
-    ensures { λ r. ⌜ r ≡ placeOf (now (s .entry)) kind ⌝ }
-{
-    let e = entry_of(s, kind);
-    Place {
-        start: start_at(s, e),
-        rows: rows_at(s, e),
-    }
-}
-
-// Where each kind's body lies.
-pub fn places_of(s: &[u8]) -> Places
-    requires { ⌜ leastBytes ≤ length (now s) ⌝ }
-    ensures { λ r. ⌜ r ≡ placesOf (now (s .entry)) ⌝ }
-{
-    Places {
-        zone: place_of(s, ZONE),
-        latitude: place_of(s, LATITUDE),
-        longitude: place_of(s, LONGITUDE),
-        northing: place_of(s, NORTHING),
-        easting: place_of(s, EASTING),
-        scale: place_of(s, SCALE),
     }
 }

@@ -5,17 +5,17 @@ use Prim.Native.Nat.{ℕ, _≤_}
 use lib.IntN.{ℤ}
 use lib.ListN.{length}
 use Rattle.words.proofs.Refusals.{refused, passed-on}
-use Rattle.contents.specs.Layout.{leastBytes}
+use Rattle.entries.specs.Layout.{leastBytes}
 use Rattle.contents.proofs.Passing.{passed}
 use Rattle.bodies.specs.Check.{checkOf}
 use Rattle.tables.proofs.Parts.{contents-none}
-use Rattle.convert.specs.declared.Plane.{Plane}
-use Rattle.convert.specs.declared.Geographic.{Geographic}
-use Rattle.convert.specs.declared.Grid.{Grid}
-use Rattle.convert.specs.Answers.{noPlane, noGeographic, noGrid, afterCheck}
-use Rattle.convert.specs.Forward.{forwardOf, geographicToPlane}
-use Rattle.convert.specs.Inverse.{inverseOf, planeToGeographic}
-use Rattle.convert.specs.Grid.{gridOf, convergenceAndScale}
+use Rattle.forward.specs.declared.Plane.{Plane}
+use Rattle.inverse.specs.declared.Geographic.{Geographic}
+use Rattle.grid.specs.declared.Grid.{Grid}
+use Rattle.forward.specs.Forward.{noPlane, forwardOf}
+use Rattle.inverse.specs.Inverse.{noGeographic, inverseOf}
+use Rattle.grid.specs.Grid.{noGrid, gridOf}
+use Rattle.convert.specs.Conversions.{afterCheck, geographicToPlane, planeToGeographic, convergenceAndScale}
 
 -- ---- `refuse` carries a number
 module _ {A : Type 0} (number : A → ℕ) (refuse : ℕ → A) (carries : (n : ℕ) → number (refuse n) ≡ n) (s : List ℕ) (rest : A) where
@@ -34,6 +34,10 @@ sheet-long s z = passed s (contents-none s z) .long
 
 -- ---- each conversion
 module _ (s : List ℕ) (a b : ℤ) where
+  pub forward-on-pass : checkOf s .number ≡ 0 → geographicToPlane s a b ≡ forwardOf s a b
+  unfolding geographicToPlane
+  forward-on-pass z = after-pass (λ r. r .number) noPlane (λ n. refl) s (forwardOf s a b) z
+
   pub forward-passes : (r : Plane) → checkOf s .number ≡ 0 → r ≡ forwardOf s a b → r ≡ geographicToPlane s a b
   unfolding geographicToPlane
   forward-passes r z e = on-pass (λ r. r .number) noPlane (λ n. refl) s (forwardOf s a b) r z e
@@ -42,6 +46,10 @@ module _ (s : List ℕ) (a b : ℤ) where
   unfolding geographicToPlane
   forward-refused n e h = after-fault (λ r. r .number) noPlane (λ n. refl) s (forwardOf s a b) n e h
 
+  pub inverse-on-pass : checkOf s .number ≡ 0 → planeToGeographic s a b ≡ inverseOf s a b
+  unfolding planeToGeographic
+  inverse-on-pass z = after-pass (λ r. r .number) noGeographic (λ n. refl) s (inverseOf s a b) z
+
   pub inverse-passes : (r : Geographic) → checkOf s .number ≡ 0 → r ≡ inverseOf s a b → r ≡ planeToGeographic s a b
   unfolding planeToGeographic
   inverse-passes r z e = on-pass (λ r. r .number) noGeographic (λ n. refl) s (inverseOf s a b) r z e
@@ -49,6 +57,10 @@ module _ (s : List ℕ) (a b : ℤ) where
   pub inverse-refused : (n : ℕ) → n ≡ checkOf s .number → (n ≡ 0 → ⊥) → noGeographic n ≡ planeToGeographic s a b
   unfolding planeToGeographic
   inverse-refused n e h = after-fault (λ r. r .number) noGeographic (λ n. refl) s (inverseOf s a b) n e h
+
+  pub grid-on-pass : checkOf s .number ≡ 0 → convergenceAndScale s a b ≡ gridOf s a b
+  unfolding convergenceAndScale
+  grid-on-pass z = after-pass (λ r. r .number) noGrid (λ n. refl) s (gridOf s a b) z
 
   pub grid-passes : (r : Grid) → checkOf s .number ≡ 0 → r ≡ gridOf s a b → r ≡ convergenceAndScale s a b
   unfolding convergenceAndScale

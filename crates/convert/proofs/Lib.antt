@@ -1,7 +1,2 @@
--- Laws of the conversions on a sheet that passes. Other crates cite them.
-pub mod Bits
+-- Laws of the conversions after the check. Other crates cite them.
 pub mod Checked
-pub mod Eastings
-pub mod Distances
-pub mod Longitudes
-pub mod Convergences

@@ -13,10 +13,10 @@ use Rattle.words.specs.Parts.{putPart}
 use Rattle.words.proofs.Refusals.{is, is-not, rung, past, refused, passed-on}
 use Rattle.words.proofs.PartWords.{part-is}
 use Rattle.words.proofs.PuttingParts.{part-back, put-back}
-use Rattle.contents.specs.declared.Place.{Place}
+use Rattle.entries.specs.declared.Place.{Place}
 use Rattle.contents.specs.declared.Verdict.{Verdict}
-use Rattle.contents.specs.Layout.{latitude, widthOf}
-use Rattle.contents.specs.Entries.{startOf, rowsOf, bodyOf, placeOf}
+use Rattle.entries.specs.Layout.{latitude, widthOf}
+use Rattle.entries.specs.Entries.{startOf, rowsOf, bodyOf, placeOf}
 use Rattle.contents.specs.Contents.{numberOf, contentsOf}
 use Rattle.bodies.proofs.Parts.{part-rows}
 use Rattle.rules.specs.declared.Figures.{Figures}

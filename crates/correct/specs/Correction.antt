@@ -8,8 +8,8 @@ use lib.IntN.{ℤ, pos, natAbs, _-ℤ_}
 use Rattle.words.specs.Words.{putWord}
 use Rattle.words.specs.Parts.{putPart}
 use Rattle.words.specs.Ladder.{need, whereBelow, whereIs, orElse}
-use Rattle.contents.specs.Layout.{latitude, widthOf}
-use Rattle.contents.specs.Entries.{startOf, rowsOf, bodyOf}
+use Rattle.entries.specs.Layout.{latitude, widthOf}
+use Rattle.entries.specs.Entries.{startOf, rowsOf, bodyOf}
 use Rattle.contents.specs.Contents.{contentsOf}
 use Rattle.rules.specs.declared.Figures.{Figures}
 use Rattle.rules.specs.declared.Differences.{Differences}

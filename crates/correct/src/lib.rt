@@ -162,9 +162,9 @@ pub fn correct(sheet: &mut [u8], minute: i32, y0: i32, h: i32, v: i32, a: i32) -
     if number != 0 {
         return number;
     }
-    let p = contents::place_of(sheet, contents::LATITUDE);
+    let p = entries::place_of(sheet, entries::LATITUDE);
     let n = p.rows;
-    let w = n * contents::width_of(contents::LATITUDE);
+    let w = n * entries::width_of(entries::LATITUDE);
     let start = 4 * p.start;
     let end = start + 4 * w;
     correct_body(&mut sheet[start..end], n, minute, Figures { y0, h, v, a })

@@ -5,8 +5,8 @@ use mathlib.Core.List.{List}
 use Prim.Native.Nat.{ℕ, suc, _+_, _*_, _-_, _<_, _≤_}
 use native.Mathlib.Decide.{decLt}
 use native.Mathlib.Omega.{arith}
-use Rattle.contents.specs.Layout.{entryCount, lastKind, widthOf}
-use Rattle.contents.specs.Entries.{kindAt, startAt, rowsAt, spanAt, dueAt, entryOf, startOf, rowsOf}
+use Rattle.entries.specs.Layout.{entryCount, lastKind, widthOf}
+use Rattle.entries.specs.Entries.{kindAt, startAt, rowsAt, spanAt, dueAt, entryOf, startOf, rowsOf}
 use Rattle.contents.specs.Contents.{contentsOf}
 use Rattle.contents.proofs.Passing.{passed, its-entry, due-rises}
 

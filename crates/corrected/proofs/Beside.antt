@@ -6,8 +6,8 @@ use Prim.Native.Nat.{ℕ, _+_, _-_, _*_, _<_, _≤_}
 use native.Mathlib.Omega.{arith}
 use lib.Dec.{lit<, lit≤}
 use lib.IntN.{ℤ, pos, natAbs, _-ℤ_, _*ℤ_}
-use Rattle.contents.specs.Layout.{lastKind, zone, latitude, longitude, northing, easting, scale, widthOf, stepOf}
-use Rattle.contents.specs.Entries.{rowsOf, bodyOf}
+use Rattle.entries.specs.Layout.{lastKind, zone, latitude, longitude, northing, easting, scale, widthOf, stepOf}
+use Rattle.entries.specs.Entries.{rowsOf, bodyOf}
 use Rattle.reading.specs.Tables.{column, valueAt, withinRows}
 use Rattle.reading.proofs.Local.{value-below, value-above}
 use Rattle.tables.specs.Figures.{figureOf, figureAt, centralMeridian, falseEasting, firstLatitude, y0Of, y0At, hAt, vAt, aAt, bAt, cAt, pAt, mAt, dAt, kAt}

@@ -10,8 +10,8 @@ use borrow.Author.Tests.{le-leb}
 use lib.IntN.{ℤ, pos, negℤ, natAbs, _+ℤ_, _-ℤ_, _*ℤ_, +ℤ-assoc, +ℤ-invl, +ℤ-idl, +ℤ-negℤ-cancel}
 use Rattle.figures.proofs.Sizes.{Size, pos-minus, subℕ-le, subℕ-lt}
 use Rattle.figures.proofs.Ring.{difference-times}
-use Rattle.contents.specs.Layout.{latitude, stepOf}
-use Rattle.contents.specs.Entries.{rowsOf, bodyOf}
+use Rattle.entries.specs.Layout.{latitude, stepOf}
+use Rattle.entries.specs.Entries.{rowsOf, bodyOf}
 use Rattle.rules.specs.Limits.{inRange}
 use Rattle.rules.proofs.Ranges.{same-self}
 use Rattle.rows.specs.Rows.{rowAt}

@@ -12,8 +12,8 @@ use Rattle.words.specs.Parts.{putPart}
 use Rattle.words.proofs.Refusals.{where-below, where-beyond}
 use Rattle.words.proofs.Writing.{putWord-keeps}
 use Rattle.words.proofs.PuttingParts.{before-part, after-part, part-put}
-use Rattle.contents.specs.Layout.{latitude}
-use Rattle.contents.specs.Entries.{startOf, rowsOf, bodyOf}
+use Rattle.entries.specs.Layout.{latitude}
+use Rattle.entries.specs.Entries.{startOf, rowsOf, bodyOf}
 use Rattle.contents.specs.Contents.{contentsOf}
 use Rattle.rules.specs.declared.Figures.{Figures}
 use Rattle.rules.specs.declared.Differences.{Differences}

@@ -15,8 +15,8 @@ use Rattle.figures.proofs.Order.{leZ-equal}
 use Rattle.figures.proofs.Rounding.{nearestSize-most}
 use Rattle.words.specs.Ladder.{need, whereBelow}
 use Rattle.words.proofs.Refusals.{where-below, where-beyond}
-use Rattle.contents.specs.Layout.{latitude, stepOf}
-use Rattle.contents.specs.Entries.{rowsOf}
+use Rattle.entries.specs.Layout.{latitude, stepOf}
+use Rattle.entries.specs.Entries.{rowsOf}
 use Rattle.bodies.specs.Check.{checkOf}
 use Rattle.reading.specs.Rows.{Rising}
 use Rattle.reading.proofs.Rising.{rises-rising}
@@ -24,10 +24,10 @@ use Rattle.tables.specs.Figures.{y0Of}
 use Rattle.tables.proofs.Ranges.{y0-rises}
 use Rattle.extent.specs.Extent.{fromFirst, latitudeKnown, lOf, longitudeKnown, xPrime, eastingKnown, northingKnown, reducedKnown}
 use Rattle.extent.proofs.Reach.{reduced-reach}
-use Rattle.convert.specs.Forward.{xSize, xOf, yOf, planeAt, forwardOf}
-use Rattle.convert.specs.Inverse.{reducedNorthing, rowOf, secondsPast, distanceOf, approximateOf, sizeOf, longitudeOf, geographicAt, fromDistance, fromReduced, inverseOf}
-use Rattle.convert.specs.Grid.{convergenceAt, gridAt, gridOf}
-use Rattle.convert.proofs.Distances.{row-not-above, past-gap}
+use Rattle.forward.specs.Forward.{xSize, xOf, yOf, planeAt, forwardOf}
+use Rattle.inverse.specs.Inverse.{reducedNorthing, rowOf, secondsPast, distanceOf, approximateOf, sizeOf, longitudeOf, geographicAt, fromDistance, fromReduced, inverseOf}
+use Rattle.grid.specs.Grid.{convergenceAt, gridAt, gridOf}
+use Rattle.inverse.proofs.Distances.{row-not-above, past-gap}
 use Rattle.corrected.proofs.Stands.{Aside, stands, stands-last, one-row, row-before, row-after}
 use Rattle.corrected.proofs.Beside.{Beside, Outside, latitude-rows, central-same, false-same, b-same, c-same, p-same, m-same, d-same, k-same, first-same, from-first-same, latitude-same, l-same, size-same, longitude-same, x-prime-same, easting-same, scale-same, northing-same, y0-row-same, y0-same, h-same, v-same, a-same}
 

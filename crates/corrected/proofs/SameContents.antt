@@ -10,8 +10,8 @@ use lib.ListN.{length}
 use Rattle.words.specs.Words.{unsignedAt}
 use Rattle.words.specs.Faults.{firstFault}
 use Rattle.words.proofs.FirstFault.{same-faults}
-use Rattle.contents.specs.Layout.{entryCount, firstBody}
-use Rattle.contents.specs.Entries.{kindAt, startAt, rowsAt, named, dueAt, entryOf, startOf, rowsOf}
+use Rattle.entries.specs.Layout.{entryCount, firstBody}
+use Rattle.entries.specs.Entries.{kindAt, startAt, rowsAt, named, dueAt, entryOf, startOf, rowsOf}
 use Rattle.contents.specs.Contents.{entryFault, sized, contentsOf}
 
 module _ (s t : List ℕ) (words : (i : ℕ) → i < firstBody → unsignedAt t i ≡ unsignedAt s i) where

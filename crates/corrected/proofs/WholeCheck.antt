@@ -9,8 +9,8 @@ use native.Mathlib.Omega.{arith}
 use lib.Dec.{lit≤}
 use lib.ListN.{length}
 use Rattle.words.specs.Ladder.{whereIs}
-use Rattle.contents.specs.Layout.{latitude, lastKind}
-use Rattle.contents.specs.Entries.{rowsOf, bodyOf}
+use Rattle.entries.specs.Layout.{latitude, lastKind}
+use Rattle.entries.specs.Entries.{rowsOf, bodyOf}
 use Rattle.contents.specs.Contents.{verdict, contentsOf}
 use Rattle.rules.specs.declared.Figures.{Figures}
 use Rattle.rules.specs.Latitude.{figuresInRange}

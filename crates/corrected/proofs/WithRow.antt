@@ -10,8 +10,8 @@ use lib.ListN.{length}
 use Rattle.words.specs.Words.{unsignedAt}
 use Rattle.words.specs.Parts.{partOf}
 use Rattle.words.proofs.PuttingParts.{length-putPart, part-put, part-before, part-after, word-before}
-use Rattle.contents.specs.Layout.{latitude, lastKind, firstBody, widthOf}
-use Rattle.contents.specs.Entries.{startOf, rowsOf, bodyOf}
+use Rattle.entries.specs.Layout.{latitude, lastKind, firstBody, widthOf}
+use Rattle.entries.specs.Entries.{startOf, rowsOf, bodyOf}
 use Rattle.contents.specs.Contents.{contentsOf}
 use Rattle.contents.proofs.Passing.{its-entry, body-after, body-within, body-length}
 use Rattle.corrected.proofs.SameContents.{same-contents, start-same, rows-same}

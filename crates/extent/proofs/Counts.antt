@@ -8,12 +8,12 @@ use native.Mathlib.Omega.{arith}
 use lib.Dec.{lit≤}
 use lib.IntN.{ℤ}
 use Rattle.figures.specs.Ranges.{mostCount, mostStep}
-use Rattle.contents.specs.declared.Place.{Place}
-use Rattle.contents.specs.declared.Places.{Places}
-use Rattle.contents.specs.Layout.{lastKind, latitude, mostRows, stepOf}
-use Rattle.contents.specs.Entries.{rowsOf, placeOf, placesOf}
+use Rattle.entries.specs.declared.Place.{Place}
+use Rattle.entries.specs.declared.Places.{Places}
+use Rattle.entries.specs.Layout.{lastKind, latitude, mostRows, stepOf}
+use Rattle.entries.specs.Entries.{rowsOf, placeOf, placesOf}
 use Rattle.contents.proofs.Passing.{rows-some, rows-most}
-use Rattle.contents.proofs.ByKind.{by-kind}
+use Rattle.entries.proofs.ByKind.{by-kind}
 use Rattle.bodies.specs.Check.{checkOf}
 use Rattle.reading.specs.Tables.{withinRows}
 use Rattle.tables.proofs.Parts.{contents-none, step-most}

@@ -11,8 +11,8 @@ use lib.Signed.{leZ}
 use Rattle.figures.specs.Ranges.{mostS}
 use Rattle.figures.proofs.Sizes.{Size}
 use Rattle.figures.proofs.Tests.{both}
-use Rattle.contents.specs.Layout.{latitude, longitude, northing, easting, scale, stepOf}
-use Rattle.contents.specs.Entries.{rowsOf}
+use Rattle.entries.specs.Layout.{latitude, longitude, northing, easting, scale, stepOf}
+use Rattle.entries.specs.Entries.{rowsOf}
 use Rattle.contents.proofs.Passing.{rows-most}
 use Rattle.bodies.specs.Check.{checkOf}
 use Rattle.reading.proofs.Span.{within-rows-size}

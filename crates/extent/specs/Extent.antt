@@ -5,8 +5,8 @@ use mathlib.Core.List.{List}
 use Prim.Native.Nat.{ℕ, _-_}
 use lib.IntN.{ℤ, pos, natAbs, _-ℤ_}
 use lib.Signed.{leZ}
-use Rattle.contents.specs.Layout.{latitude, longitude, northing, easting, scale, stepOf}
-use Rattle.contents.specs.Entries.{rowsOf}
+use Rattle.entries.specs.Layout.{latitude, longitude, northing, easting, scale, stepOf}
+use Rattle.entries.specs.Entries.{rowsOf}
 use Rattle.reading.specs.Tables.{withinRows}
 use Rattle.tables.specs.Figures.{centralMeridian, falseEasting, firstLatitude, y0Of}
 

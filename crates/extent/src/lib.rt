@@ -1,11 +1,11 @@
 // How far a sheet that passes the check reaches: where a point stands in its tables, and whether that is within their rows, as numbers 10 to 14 ask.
-use contents::Place;
-use contents::Places;
+use entries::Place;
+use entries::Places;
 ghost use mathlib.Core.Path.{_≡_};
 ghost use Prim.Native.Nat.{_≤_};
 ghost use lib.IntN.{natAbs};
-ghost use Rattle.contents.specs.Layout.{lastKind, stepOf};
-ghost use Rattle.contents.specs.Entries.{rowsOf, placeOf, placesOf};
+ghost use Rattle.entries.specs.Layout.{lastKind, stepOf};
+ghost use Rattle.entries.specs.Entries.{rowsOf, placeOf, placesOf};
 ghost use Rattle.bodies.specs.Check.{checkOf};
 ghost use Rattle.reading.specs.Tables.{withinRows};
 ghost use Rattle.extent.specs.Extent.{fromFirst, latitudeKnown, lOf, sizeKnown, longitudeKnown, xPrime, eastingKnown, scaleKnown, northingKnown, reducedKnown};
@@ -15,7 +15,7 @@ fn within(s: &[u8], place: Place, kind: usize, z: i64) -> bool
     requires { ⌜ (checkOf (now s) .number ≡ 0) × (place ≡ placeOf (now s) kind) × (1 ≤ kind) × (kind ≤ lastKind) ⌝ }
     ensures { λ r. ⌜ r ≡ withinRows (rowsOf (now (s .entry)) kind) (stepOf kind) z ⌝ }
 {
-    reading::within_rows(place.rows, contents::step_of(kind), z)
+    reading::within_rows(place.rows, entries::step_of(kind), z)
 }
 
 // The latitude's distance from row 0, in 0.001″.
@@ -31,12 +31,7 @@ pub fn latitude_known(s: &[u8], p: Places, latitude: i32) -> bool
     requires { ⌜ (checkOf (now s) .number ≡ 0) × (p ≡ placesOf (now s)) ⌝ }
     ensures { λ r. ⌜ r ≡ latitudeKnown (now (s .entry)) latitude ⌝ }
 {
-    within(
-        s,
-        p.latitude,
-        contents::LATITUDE,
-        from_first(s, p, latitude),
-    )
+    within(s, p.latitude, entries::LATITUDE, from_first(s, p, latitude))
 }
 
 // L, in 0.001″.
@@ -52,7 +47,7 @@ pub fn size_known(s: &[u8], p: Places, size: i64) -> bool
     requires { ⌜ (checkOf (now s) .number ≡ 0) × (p ≡ placesOf (now s)) ⌝ }
     ensures { λ r. ⌜ r ≡ sizeKnown (now (s .entry)) size ⌝ }
 {
-    within(s, p.longitude, contents::LONGITUDE, size)
+    within(s, p.longitude, entries::LONGITUDE, size)
 }
 
 // Whether the longitude is one that there is, and its L not above the last kind 3 row.
@@ -77,7 +72,7 @@ pub fn easting_known(s: &[u8], p: Places, xp: i64) -> bool
     requires { ⌜ (checkOf (now s) .number ≡ 0) × (p ≡ placesOf (now s)) × (natAbs xp ≤ 2_247_483_648) ⌝ }
     ensures { λ r. ⌜ r ≡ eastingKnown (now (s .entry)) xp ⌝ }
 {
-    within(s, p.easting, contents::EASTING, figures::size(xp) as i64)
+    within(s, p.easting, entries::EASTING, figures::size(xp) as i64)
 }
 
 // Whether x′ in size is not above the last kind 6 row.
@@ -85,7 +80,7 @@ pub fn scale_known(s: &[u8], p: Places, xp: i64) -> bool
     requires { ⌜ (checkOf (now s) .number ≡ 0) × (p ≡ placesOf (now s)) × (natAbs xp ≤ 2_247_483_648) ⌝ }
     ensures { λ r. ⌜ r ≡ scaleKnown (now (s .entry)) xp ⌝ }
 {
-    within(s, p.scale, contents::SCALE, figures::size(xp) as i64)
+    within(s, p.scale, entries::SCALE, figures::size(xp) as i64)
 }
 
 // Whether y lies from 0 to the last kind 4 row.
@@ -93,7 +88,7 @@ pub fn northing_known(s: &[u8], p: Places, y: i32) -> bool
     requires { ⌜ (checkOf (now s) .number ≡ 0) × (p ≡ placesOf (now s)) ⌝ }
     ensures { λ r. ⌜ r ≡ northingKnown (now (s .entry)) y ⌝ }
 {
-    within(s, p.northing, contents::NORTHING, y as i64)
+    within(s, p.northing, entries::NORTHING, y as i64)
 }
 
 // Whether the reduced northing lies from the first y0 to the last.

@@ -4,6 +4,7 @@ pub mod Sizes
 pub mod Order
 pub mod Tests
 pub mod Holds
+pub mod Bits
 pub mod Rounding
 pub mod Interval
 pub mod Raised

@@ -12,24 +12,24 @@ use Rattle.figures.proofs.Sizes.{sum-most, difference-most, size-withSign}
 use Rattle.figures.specs.Nearest.{withSign}
 use Rattle.figures.specs.Ranges.{mostS}
 use Rattle.words.specs.Ladder.{need}
-use Rattle.contents.specs.Layout.{latitude, longitude, stepOf}
-use Rattle.contents.specs.Entries.{rowsOf}
+use Rattle.entries.specs.Layout.{latitude, longitude, stepOf}
+use Rattle.entries.specs.Entries.{rowsOf}
 use Rattle.bodies.specs.Check.{checkOf}
 use Rattle.tables.specs.Figures.{centralMeridian, firstLatitude}
 use Rattle.tables.proofs.Ranges.{central-size, first-most, k-between}
 use Rattle.extent.specs.Extent.{fromFirst, latitudeKnown, lOf, longitudeKnown, sizeKnown, xPrime, eastingKnown, scaleKnown, northingKnown, reducedKnown}
 use Rattle.extent.proofs.Reach.{latitude-reach, longitude-reach, size-reach, scale-reach, latitude-span, longitude-span}
-use Rattle.convert.specs.declared.Plane.{Plane}
-use Rattle.convert.specs.declared.Geographic.{Geographic}
-use Rattle.convert.specs.declared.Grid.{Grid}
-use Rattle.convert.specs.Answers.{noPlane, noGeographic, noGrid, afterCheck}
-use Rattle.convert.specs.Forward.{xOf, yOf, planeAt, forwardOf, geographicToPlane}
-use Rattle.convert.specs.Inverse.{approximateOf, sizeOf, longitudeOf, distanceOf, reducedNorthing, geographicAt, fromDistance, fromReduced, inverseOf, planeToGeographic}
-use Rattle.convert.specs.Grid.{gridAt, gridOf, convergenceAndScale}
+use Rattle.forward.specs.declared.Plane.{Plane}
+use Rattle.inverse.specs.declared.Geographic.{Geographic}
+use Rattle.grid.specs.declared.Grid.{Grid}
+use Rattle.forward.specs.Forward.{noPlane, xOf, yOf, planeAt, forwardOf}
+use Rattle.inverse.specs.Inverse.{noGeographic, approximateOf, sizeOf, longitudeOf, distanceOf, reducedNorthing, geographicAt, fromDistance, fromReduced, inverseOf}
+use Rattle.grid.specs.Grid.{noGrid, gridAt, gridOf}
+use Rattle.convert.specs.Conversions.{afterCheck, geographicToPlane, planeToGeographic, convergenceAndScale}
 use Rattle.convert.proofs.Checked.{after-pass, after-fault}
-use Rattle.convert.proofs.Eastings.{x-most, y-most}
-use Rattle.convert.proofs.Distances.{distance-most}
-use Rattle.convert.proofs.Convergences.{convergence-small}
+use Rattle.forward.proofs.Eastings.{x-most, y-most}
+use Rattle.inverse.proofs.Distances.{distance-most}
+use Rattle.grid.proofs.Convergences.{convergence-small}
 use Rattle.promises.specs.Conversions.{Fits32}
 
 -- a promise of every answer holds of a ladder where it holds of each rung's answer

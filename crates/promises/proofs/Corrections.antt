@@ -17,8 +17,8 @@ use Rattle.figures.proofs.Order.{above-of, not-above-of, not-below-of, ltZ-leZ,
 use Rattle.words.specs.Words.{wordAt}
 use Rattle.words.specs.Ladder.{need, whereBelow}
 use Rattle.words.proofs.Refusals.{past, where-below, where-beyond, is, is-not}
-use Rattle.contents.specs.Layout.{latitude, stepOf}
-use Rattle.contents.specs.Entries.{startOf, rowsOf, bodyOf}
+use Rattle.entries.specs.Layout.{latitude, stepOf}
+use Rattle.entries.specs.Entries.{startOf, rowsOf, bodyOf}
 use Rattle.contents.specs.Contents.{numberOf, contentsOf}
 use Rattle.rules.specs.declared.Figures.{Figures}
 use Rattle.rows.specs.Rows.{figuresAt}
@@ -28,9 +28,10 @@ use Rattle.tables.proofs.Parts.{contents-none}
 use Rattle.reading.specs.Rows.{RisesBy}
 use Rattle.tables.proofs.Ranges.{latitude-some, y0-rises}
 use Rattle.extent.specs.Extent.{latitudeKnown, longitudeKnown, xPrime, eastingKnown, northingKnown, reducedKnown}
-use Rattle.convert.specs.Forward.{forwardOf, geographicToPlane}
-use Rattle.convert.specs.Inverse.{reducedNorthing, inverseOf, planeToGeographic}
-use Rattle.convert.specs.Grid.{gridOf, convergenceAndScale}
+use Rattle.forward.specs.Forward.{forwardOf}
+use Rattle.inverse.specs.Inverse.{reducedNorthing, inverseOf}
+use Rattle.grid.specs.Grid.{gridOf}
+use Rattle.convert.specs.Conversions.{geographicToPlane, planeToGeographic, convergenceAndScale}
 use Rattle.convert.proofs.Checked.{forward-passes, inverse-passes, grid-passes, after-pass}
 use Rattle.correct.specs.Correction.{fromFirstMinute, hasRow, judgedBy, correctionOf, correctedOf}
 use Rattle.correct.proofs.Place.{row-there}

@@ -16,11 +16,11 @@ use Rattle.tables.specs.Figures.{centralMeridian, hAt, aAt, bAt}
 use Rattle.tables.proofs.Ranges.{central-size}
 use Rattle.extent.specs.Extent.{fromFirst, latitudeKnown, lOf, longitudeKnown, sizeKnown, eastingKnown, reducedKnown}
 use Rattle.extent.proofs.Reach.{latitude-reach, longitude-reach, easting-reach, size-reach, longitude-span}
-use Rattle.convert.specs.Forward.{xSize}
-use Rattle.convert.specs.Inverse.{distanceOf, approximateOf, sizeOf, longitudeOf}
-use Rattle.convert.proofs.Eastings.{x-not-negative}
-use Rattle.convert.proofs.Longitudes.{l-not-negative}
-use Rattle.convert.proofs.Distances.{distance-most}
+use Rattle.forward.specs.Forward.{xSize}
+use Rattle.inverse.specs.Inverse.{distanceOf, approximateOf, sizeOf, longitudeOf}
+use Rattle.forward.proofs.Eastings.{x-not-negative}
+use Rattle.inverse.proofs.Longitudes.{l-not-negative}
+use Rattle.inverse.proofs.Distances.{distance-most}
 
 -- the nearest to a number that is not negative is not negative, nor is a multiple
 nearest-nonNeg : (z : ℤ) (d : ℕ) → T (nonNeg z) → T (nonNeg (nearest z d))

@@ -8,17 +8,17 @@ use Prim.Native.Nat.{ℕ, _+_, _-_, _*_, _<_, _≤_}
 use lib.IntN.{ℤ, pos, negℤ, natAbs, _-ℤ_, _*ℤ_}
 use lib.ListN.{getD}
 use lib.Signed.{leZ}
-use Rattle.contents.specs.Layout.{latitude, stepOf}
-use Rattle.contents.specs.Entries.{startOf, rowsOf, bodyOf}
+use Rattle.entries.specs.Layout.{latitude, stepOf}
+use Rattle.entries.specs.Entries.{startOf, rowsOf, bodyOf}
 use Rattle.contents.specs.Contents.{verdict}
 use Rattle.rules.specs.declared.Figures.{Figures}
 use Rattle.rows.specs.Rows.{figuresAt, rowAt}
 use Rattle.bodies.specs.Check.{checkOf}
 use Rattle.tables.specs.Figures.{y0Of}
 use Rattle.extent.specs.Extent.{xPrime, eastingKnown, northingKnown}
-use Rattle.convert.specs.Forward.{forwardOf, geographicToPlane}
-use Rattle.convert.specs.Inverse.{reducedNorthing, inverseOf, planeToGeographic}
-use Rattle.convert.specs.Grid.{convergenceAndScale}
+use Rattle.forward.specs.Forward.{forwardOf}
+use Rattle.inverse.specs.Inverse.{reducedNorthing, inverseOf}
+use Rattle.convert.specs.Conversions.{geographicToPlane, planeToGeographic, convergenceAndScale}
 use Rattle.correct.specs.Correction.{correctionOf, withRow, correctedOf}
 use Rattle.touched.specs.Touched.{touch, hasMinute, rowNamed, geographicTouched, planeTouched}
 

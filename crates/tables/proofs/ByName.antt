@@ -2,9 +2,9 @@
 use mathlib.Core.Path.{_≡_, ap}
 use mathlib.Core.List.{List}
 use Prim.Native.Nat.{ℕ}
-use Rattle.contents.specs.declared.Places.{Places}
-use Rattle.contents.specs.Layout.{zone, latitude, longitude, northing, easting, scale}
-use Rattle.contents.specs.Entries.{placeOf, placesOf}
+use Rattle.entries.specs.declared.Places.{Places}
+use Rattle.entries.specs.Layout.{zone, latitude, longitude, northing, easting, scale}
+use Rattle.entries.specs.Entries.{placeOf, placesOf}
 
 module _ (s : List ℕ) (p : Places) (e : p ≡ placesOf s) where
   pub zone-place : p .zone ≡ placeOf s zone

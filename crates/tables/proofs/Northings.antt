@@ -10,9 +10,9 @@ use lib.Signed.{leZ}
 use mir.Syntax.{w64}
 use mir.Val.{Fits}
 use Rattle.words.proofs.PartWords.{part-is}
-use Rattle.contents.specs.declared.Place.{Place}
-use Rattle.contents.specs.Layout.{latitude, widthOf}
-use Rattle.contents.specs.Entries.{rowsOf, placeOf}
+use Rattle.entries.specs.declared.Place.{Place}
+use Rattle.entries.specs.Layout.{latitude, widthOf}
+use Rattle.entries.specs.Entries.{rowsOf, placeOf}
 use Rattle.bodies.specs.Check.{checkOf}
 use Rattle.bodies.proofs.Parts.{part-within, words-fit, start-fits, bytes-fit, end-fits}
 use Rattle.reading.specs.Tables.{column}

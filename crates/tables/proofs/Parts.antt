@@ -18,12 +18,12 @@ use lib.Signed.{mag, leZ}
 use Rattle.figures.specs.Ranges.{mostStep}
 use Rattle.words.specs.Words.{unsignedAt, wordAt}
 use Rattle.words.proofs.PartWords.{part-is}
-use Rattle.contents.specs.declared.Place.{Place}
-use Rattle.contents.specs.Layout.{lastKind, mostBytes, widthOf, leastRows, stepOf}
-use Rattle.contents.specs.Entries.{rowsOf, placeOf}
+use Rattle.entries.specs.declared.Place.{Place}
+use Rattle.entries.specs.Layout.{lastKind, mostBytes, widthOf, leastRows, stepOf}
+use Rattle.entries.specs.Entries.{rowsOf, placeOf}
 use Rattle.contents.specs.Contents.{numberOf, contentsOf}
 use Rattle.contents.proofs.Passing.{passed, rows-least}
-use Rattle.contents.proofs.ByKind.{by-kind}
+use Rattle.entries.proofs.ByKind.{by-kind}
 use Rattle.bodies.specs.Check.{checkOf}
 use Rattle.bodies.proofs.Sound.{passes-sound}
 use Rattle.bodies.proofs.Parts.{part-rows}

@@ -15,14 +15,14 @@ use Rattle.rules.proofs.WhatPasses.{InRange, range-size, range-most}
 use Rattle.rows.specs.Rows.{figuresAt}
 use Rattle.rows.proofs.PassingFigures.{minute-in-range, figures-in-range, figures-within}
 use Rattle.small_rows.proofs.PassingFigures.{b-most}
-use Rattle.contents.specs.Layout.{lastKind, zone, latitude, longitude, northing, easting, scale, stepOf}
-use Rattle.contents.specs.Entries.{rowsOf, bodyOf}
+use Rattle.entries.specs.Layout.{lastKind, zone, latitude, longitude, northing, easting, scale, stepOf}
+use Rattle.entries.specs.Entries.{rowsOf, bodyOf}
 use Rattle.contents.proofs.Passing.{rows-some}
 use Rattle.bodies.specs.Check.{checkOf}
 use Rattle.bodies.proofs.Sound.{passes-sound, zone-rows, latitude-rows, longitude-rows, northing-rows, easting-rows, scale-rows}
 use Rattle.reading.specs.Rows.{RisesBy, NotNegative}
 use Rattle.reading.proofs.Values.{value-most, value-size, value-slope}
-use Rattle.tables.specs.Figures.{figureOf, figureAt, centralMeridian, falseEasting, firstLatitude, y0Of, y0At, aAt, bAt, cAt, dAt, kAt}
+use Rattle.tables.specs.Figures.{figureOf, figureAt, centralMeridian, falseEasting, firstLatitude, y0Of, y0At, hAt, aAt, bAt, cAt, dAt, kAt}
 use Rattle.tables.proofs.Parts.{contents-none}
 
 -- a body of one word in a row
@@ -122,6 +122,10 @@ module _ (s : List ℕ) (z : checkOf s .number ≡ 0) where
     unfolding figuresAt
     h-between =
         value-size (figureOf s latitude 3) (rowsOf s latitude) (stepOf latitude) t (lit< tt) latitude-some h 30_000_000 mostH (λ i l. in-range i l .h)
+
+    pub h-least : 30_000_000 ≤ hAt s t
+    unfolding hAt
+    h-least = h-between .low
 
     pub v-between : Size 0 (figureAt s latitude 5 t) mostV
     unfolding figuresAt

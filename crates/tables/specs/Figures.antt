@@ -3,8 +3,8 @@
 use mathlib.Core.List.{List}
 use Prim.Native.Nat.{ℕ}
 use lib.IntN.{ℤ, pos, natAbs, _*ℤ_}
-use Rattle.contents.specs.Layout.{zone, latitude, longitude, northing, easting, scale, widthOf, stepOf}
-use Rattle.contents.specs.Entries.{bodyOf}
+use Rattle.entries.specs.Layout.{zone, latitude, longitude, northing, easting, scale, widthOf, stepOf}
+use Rattle.entries.specs.Entries.{bodyOf}
 use Rattle.reading.specs.Tables.{column, valueAt}
 
 -- The figure in row i of a column of the kind.

@@ -1,14 +1,14 @@
 // The figures of a sheet that passes the check, by name: at its rows and between them. The sheet goes with its places, which are worked once.
-use contents::Place;
-use contents::Places;
+use entries::Place;
+use entries::Places;
 ghost use mathlib.Core.Path.{_≡_};
 ghost use mathlib.Core.Bool.{true};
 ghost use Prim.Native.Nat.{_+_, _-_, _*_, _^_, _<_, _≤_};
 ghost use lib.IntN.{pos, natAbs};
 ghost use lib.Signed.{leZ};
 ghost use Rattle.figures.specs.Ranges.{mostH, mostV, mostA, mostB, mostC, mostP, mostM, mostD};
-ghost use Rattle.contents.specs.Layout.{lastKind, latitude, longitude, northing, easting, scale, widthOf, stepOf};
-ghost use Rattle.contents.specs.Entries.{rowsOf, placeOf, placesOf};
+ghost use Rattle.entries.specs.Layout.{lastKind, latitude, longitude, northing, easting, scale, widthOf, stepOf};
+ghost use Rattle.entries.specs.Entries.{rowsOf, placeOf, placesOf};
 ghost use Rattle.bodies.specs.Check.{checkOf};
 ghost use Rattle.reading.specs.Rows.{lastNotAbove, NotNegative};
 ghost use Rattle.tables.specs.Figures.{figureOf, figureAt, centralMeridian, falseEasting, firstLatitude, y0Of, y0At, hAt, vAt, aAt, bAt, cAt, pAt, mAt, dAt, kAt};
@@ -18,7 +18,7 @@ fn figure_of(s: &[u8], place: Place, kind: usize, number: usize, i: usize) -> i6
     requires { ⌜ (checkOf (now s) .number ≡ 0) × (place ≡ placeOf (now s) kind) × (1 ≤ kind) × (kind ≤ lastKind) × (number < widthOf kind) × (i < rowsOf (now s) kind) × (leZ (pos 0) (figureOf (now s) kind number i) ≡ true) ⌝ }
     ensures { λ r. ⌜ r ≡ figureOf (now (s .entry)) kind number i ⌝ }
 {
-    let w = contents::width_of(kind);
+    let w = entries::width_of(kind);
     let a = 4 * place.start;
     let z = a + 4 * (place.rows * w);
     let b = &s[a..z];
@@ -30,7 +30,7 @@ fn figure_at(s: &[u8], place: Place, kind: usize, number: usize, offset: u64) ->
     requires { ⌜ (checkOf (now s) .number ≡ 0) × (place ≡ placeOf (now s) kind) × (1 ≤ kind) × (kind ≤ lastKind) × (0 < stepOf kind) × (number < widthOf kind) × (offset ≤ (rowsOf (now s) kind - 1) * stepOf kind) ⌝ }
     ensures { λ r. ⌜ r ≡ figureAt (now (s .entry)) kind number offset ⌝ }
 {
-    let w = contents::width_of(kind);
+    let w = entries::width_of(kind);
     let a = 4 * place.start;
     let z = a + 4 * (place.rows * w);
     reading::value_at(
@@ -38,7 +38,7 @@ fn figure_at(s: &[u8], place: Place, kind: usize, number: usize, offset: u64) ->
         w,
         number,
         place.rows,
-        contents::step_of(kind),
+        entries::step_of(kind),
         offset,
     )
 }
@@ -48,7 +48,7 @@ fn size_at(s: &[u8], place: Place, kind: usize, number: usize, offset: u64) -> u
     requires { ⌜ (checkOf (now s) .number ≡ 0) × (place ≡ placeOf (now s) kind) × (1 ≤ kind) × (kind ≤ lastKind) × (0 < stepOf kind) × (number < widthOf kind) × (offset ≤ (rowsOf (now s) kind - 1) * stepOf kind) × NotNegative (figureOf (now s) kind number) (rowsOf (now s) kind) ⌝ }
     ensures { λ r. ⌜ pos r ≡ figureAt (now (s .entry)) kind number offset ⌝ }
 {
-    let w = contents::width_of(kind);
+    let w = entries::width_of(kind);
     let a = 4 * place.start;
     let z = a + 4 * (place.rows * w);
     reading::size_at(
@@ -56,7 +56,7 @@ fn size_at(s: &[u8], place: Place, kind: usize, number: usize, offset: u64) -> u
         w,
         number,
         place.rows,
-        contents::step_of(kind),
+        entries::step_of(kind),
         offset,
     )
 }
@@ -66,7 +66,7 @@ pub fn central_meridian(s: &[u8], p: Places) -> i64
     requires { ⌜ (checkOf (now s) .number ≡ 0) × (p ≡ placesOf (now s)) ⌝ }
     ensures { λ r. ⌜ (r ≡ centralMeridian (now (s .entry))) × (natAbs r ≤ 642_000_000) ⌝ }
 {
-    figure_of(s, p.zone, contents::ZONE, 0, 0)
+    figure_of(s, p.zone, entries::ZONE, 0, 0)
 }
 
 // The false easting C, in 0.01 ft.
@@ -74,7 +74,7 @@ pub fn false_easting(s: &[u8], p: Places) -> i64
     requires { ⌜ (checkOf (now s) .number ≡ 0) × (p ≡ placesOf (now s)) ⌝ }
     ensures { λ r. ⌜ (r ≡ falseEasting (now (s .entry))) × (natAbs r ≤ 100_000_000) ⌝ }
 {
-    figure_of(s, p.zone, contents::ZONE, 1, 0)
+    figure_of(s, p.zone, entries::ZONE, 1, 0)
 }
 
 // The latitude of row 0, in 0.001″.
@@ -82,7 +82,7 @@ pub fn first_latitude(s: &[u8], p: Places) -> i64
     requires { ⌜ (checkOf (now s) .number ≡ 0) × (p ≡ placesOf (now s)) ⌝ }
     ensures { λ r. ⌜ (r ≡ firstLatitude (now (s .entry))) × (natAbs r ≤ 324_000_000) ⌝ }
 {
-    figure_of(s, p.latitude, contents::LATITUDE, 0, 0) * 60_000
+    figure_of(s, p.latitude, entries::LATITUDE, 0, 0) * 60_000
 }
 
 // y0 in latitude row i, in 0.01 ft.
@@ -90,7 +90,7 @@ pub fn y0_of(s: &[u8], p: Places, i: usize) -> i64
     requires { ⌜ (checkOf (now s) .number ≡ 0) × (p ≡ placesOf (now s)) × (i < rowsOf (now s) latitude) ⌝ }
     ensures { λ r. ⌜ (r ≡ y0Of (now (s .entry)) i) × (natAbs r ≤ 999_999_999) ⌝ }
 {
-    figure_of(s, p.latitude, contents::LATITUDE, 1, i)
+    figure_of(s, p.latitude, entries::LATITUDE, 1, i)
 }
 
 // The last latitude row with y0 not above z, which is not below the first. `place` is the latitude body's.
@@ -99,7 +99,7 @@ pub fn row_of(s: &[u8], place: Place, z: i64) -> usize
     ensures { λ r. ⌜ (r ≡ lastNotAbove (y0Of (now (s .entry))) (rowsOf (now (s .entry)) latitude) z) × (r < rowsOf (now (s .entry)) latitude) ⌝ }
 {
     let n = place.rows;
-    let w = contents::width_of(contents::LATITUDE);
+    let w = entries::width_of(entries::LATITUDE);
     let a = 4 * place.start;
     let end = a + 4 * (n * w);
     reading::row_of(&s[a..end], w, 1, n, 600_000, 615_000, z)
@@ -110,7 +110,7 @@ pub fn y0_at(s: &[u8], p: Places, t: u64) -> i64
     requires { ⌜ (checkOf (now s) .number ≡ 0) × (p ≡ placesOf (now s)) × (t ≤ (rowsOf (now s) latitude - 1) * stepOf latitude) ⌝ }
     ensures { λ r. ⌜ (r ≡ y0At (now (s .entry)) t) × (natAbs r ≤ 999_999_999) ⌝ }
 {
-    size_at(s, p.latitude, contents::LATITUDE, 1, t) as i64
+    size_at(s, p.latitude, entries::LATITUDE, 1, t) as i64
 }
 
 // H at t from row 0, in 0.000001.
@@ -118,7 +118,7 @@ pub fn h_at(s: &[u8], p: Places, t: u64) -> u64
     requires { ⌜ (checkOf (now s) .number ≡ 0) × (p ≡ placesOf (now s)) × (t ≤ (rowsOf (now s) latitude - 1) * stepOf latitude) ⌝ }
     ensures { λ r. ⌜ (r ≡ hAt (now (s .entry)) t) × (30_000_000 ≤ r) × (r ≤ mostH) ⌝ }
 {
-    size_at(s, p.latitude, contents::LATITUDE, 3, t)
+    size_at(s, p.latitude, entries::LATITUDE, 3, t)
 }
 
 // V at t from row 0, in 0.000001.
@@ -126,7 +126,7 @@ pub fn v_at(s: &[u8], p: Places, t: u64) -> u64
     requires { ⌜ (checkOf (now s) .number ≡ 0) × (p ≡ placesOf (now s)) × (t ≤ (rowsOf (now s) latitude - 1) * stepOf latitude) ⌝ }
     ensures { λ r. ⌜ (r ≡ vAt (now (s .entry)) t) × (r ≤ mostV) ⌝ }
 {
-    size_at(s, p.latitude, contents::LATITUDE, 5, t)
+    size_at(s, p.latitude, entries::LATITUDE, 5, t)
 }
 
 // a at t from row 0, in 0.001.
@@ -134,7 +134,7 @@ pub fn a_at(s: &[u8], p: Places, t: u64) -> i64
     requires { ⌜ (checkOf (now s) .number ≡ 0) × (p ≡ placesOf (now s)) × (t ≤ (rowsOf (now s) latitude - 1) * stepOf latitude) ⌝ }
     ensures { λ r. ⌜ (r ≡ aAt (now (s .entry)) t) × (natAbs r ≤ mostA) ⌝ }
 {
-    figure_at(s, p.latitude, contents::LATITUDE, 7, t)
+    figure_at(s, p.latitude, entries::LATITUDE, 7, t)
 }
 
 // b at a size of L, in 0.001.
@@ -142,7 +142,7 @@ pub fn b_at(s: &[u8], p: Places, size: u64) -> i64
     requires { ⌜ (checkOf (now s) .number ≡ 0) × (p ≡ placesOf (now s)) × (size ≤ (rowsOf (now s) longitude - 1) * stepOf longitude) ⌝ }
     ensures { λ r. ⌜ (r ≡ bAt (now (s .entry)) size) × (natAbs r ≤ mostB) ⌝ }
 {
-    figure_at(s, p.longitude, contents::LONGITUDE, 0, size)
+    figure_at(s, p.longitude, entries::LONGITUDE, 0, size)
 }
 
 // c at a size of L, in 0.001 ft.
@@ -150,7 +150,7 @@ pub fn c_at(s: &[u8], p: Places, size: u64) -> i64
     requires { ⌜ (checkOf (now s) .number ≡ 0) × (p ≡ placesOf (now s)) × (size ≤ (rowsOf (now s) longitude - 1) * stepOf longitude) ⌝ }
     ensures { λ r. ⌜ (r ≡ cAt (now (s .entry)) size) × (natAbs r ≤ mostC) ⌝ }
 {
-    figure_at(s, p.longitude, contents::LONGITUDE, 1, size)
+    figure_at(s, p.longitude, entries::LONGITUDE, 1, size)
 }
 
 // P at y, in 0.00001.
@@ -158,7 +158,7 @@ pub fn p_at(s: &[u8], p: Places, y: u64) -> u64
     requires { ⌜ (checkOf (now s) .number ≡ 0) × (p ≡ placesOf (now s)) × (y ≤ (rowsOf (now s) northing - 1) * stepOf northing) ⌝ }
     ensures { λ r. ⌜ (r ≡ pAt (now (s .entry)) y) × (r ≤ mostP) ⌝ }
 {
-    size_at(s, p.northing, contents::NORTHING, 0, y)
+    size_at(s, p.northing, entries::NORTHING, 0, y)
 }
 
 // M at y, in 10⁻⁷.
@@ -166,7 +166,7 @@ pub fn m_at(s: &[u8], p: Places, y: u64) -> u64
     requires { ⌜ (checkOf (now s) .number ≡ 0) × (p ≡ placesOf (now s)) × (y ≤ (rowsOf (now s) northing - 1) * stepOf northing) ⌝ }
     ensures { λ r. ⌜ (r ≡ mAt (now (s .entry)) y) × (r ≤ mostM) ⌝ }
 {
-    size_at(s, p.northing, contents::NORTHING, 1, y)
+    size_at(s, p.northing, entries::NORTHING, 1, y)
 }
 
 // d at a size of x′, in 0.01 ft.
@@ -174,7 +174,7 @@ pub fn d_at(s: &[u8], p: Places, size: u64) -> i64
     requires { ⌜ (checkOf (now s) .number ≡ 0) × (p ≡ placesOf (now s)) × (size ≤ (rowsOf (now s) easting - 1) * stepOf easting) ⌝ }
     ensures { λ r. ⌜ (r ≡ dAt (now (s .entry)) size) × (natAbs r ≤ mostD) ⌝ }
 {
-    figure_at(s, p.easting, contents::EASTING, 0, size)
+    figure_at(s, p.easting, entries::EASTING, 0, size)
 }
 
 // k at a size of x′, in 10⁻⁷.
@@ -182,5 +182,5 @@ pub fn k_at(s: &[u8], p: Places, size: u64) -> i64
     requires { ⌜ (checkOf (now s) .number ≡ 0) × (p ≡ placesOf (now s)) × (size ≤ (rowsOf (now s) scale - 1) * stepOf scale) ⌝ }
     ensures { λ r. ⌜ (r ≡ kAt (now (s .entry)) size) × (natAbs r ≤ 10_010_000) ⌝ }
 {
-    size_at(s, p.scale, contents::SCALE, 0, size) as i64
+    size_at(s, p.scale, entries::SCALE, 0, size) as i64
 }

@@ -11,8 +11,8 @@ use mir.Syntax.{w64}
 use mir.Val.{Fits, ofZ}
 use Rattle.figures.proofs.Holds.{Holds, held-result, renamed}
 use Rattle.words.proofs.Refusals.{where-below, where-beyond}
-use Rattle.contents.specs.Layout.{latitude}
-use Rattle.contents.specs.Entries.{rowsOf}
+use Rattle.entries.specs.Layout.{latitude}
+use Rattle.entries.specs.Entries.{rowsOf}
 use Rattle.contents.proofs.Passing.{rows-least}
 use Rattle.bodies.specs.Check.{checkOf}
 use Rattle.tables.specs.Figures.{y0Of}

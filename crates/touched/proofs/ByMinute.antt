@@ -6,9 +6,9 @@ use Prim.Native.Nat.{ℕ, _*_, _≤_}
 use lib.IntN.{ℤ}
 use lib.ListN.{length}
 use Rattle.words.proofs.PartWords.{part-is}
-use Rattle.contents.specs.declared.Place.{Place}
-use Rattle.contents.specs.Layout.{latitude, widthOf}
-use Rattle.contents.specs.Entries.{bodyOf, placeOf}
+use Rattle.entries.specs.declared.Place.{Place}
+use Rattle.entries.specs.Layout.{latitude, widthOf}
+use Rattle.entries.specs.Entries.{bodyOf, placeOf}
 use Rattle.bodies.specs.Check.{checkOf}
 use Rattle.tables.proofs.Parts.{contents-none, cut}
 use Rattle.correct.specs.Correction.{namedRow, hasRow}

@@ -8,12 +8,12 @@ use lib.Dec.{ltb}
 use lib.IntN.{ℤ, pos, natAbs, _+ℤ_, _-ℤ_, _*ℤ_}
 use lib.Signed.{leZ, ltZ}
 use Rattle.words.specs.Ladder.{need, whereBelow}
-use Rattle.contents.specs.Layout.{latitude, stepOf}
-use Rattle.contents.specs.Entries.{rowsOf, bodyOf}
+use Rattle.entries.specs.Layout.{latitude, stepOf}
+use Rattle.entries.specs.Entries.{rowsOf, bodyOf}
 use Rattle.tables.specs.Figures.{y0Of}
 use Rattle.extent.specs.Extent.{latitudeKnown, longitudeKnown, xPrime, eastingKnown, northingKnown}
-use Rattle.convert.specs.Answers.{afterCheck}
-use Rattle.convert.specs.Inverse.{reducedNorthing}
+use Rattle.inverse.specs.Inverse.{reducedNorthing}
+use Rattle.convert.specs.Conversions.{afterCheck}
 use Rattle.correct.specs.Correction.{namedRow, hasRow}
 use Rattle.touched.specs.declared.Touch.{Touch}
 

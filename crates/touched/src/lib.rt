@@ -1,13 +1,13 @@
 // Which points a correction of one latitude row may touch. Each question has two forms with one definition: over any bytes, which are checked first, and over a sheet known to
 // pass, with its places in hand.
-use contents::Place;
-use contents::Places;
+use entries::Place;
+use entries::Places;
 ghost use mathlib.Core.Path.{_≡_};
 ghost use mathlib.Core.Bool.{true};
 ghost use Prim.Native.Nat.{_<_, _^_};
 ghost use lib.IntN.{natAbs};
-ghost use Rattle.contents.specs.Layout.{latitude};
-ghost use Rattle.contents.specs.Entries.{rowsOf, placeOf, placesOf};
+ghost use Rattle.entries.specs.Layout.{latitude};
+ghost use Rattle.entries.specs.Entries.{rowsOf, placeOf, placesOf};
 ghost use Rattle.bodies.specs.Check.{checkOf};
 ghost use Rattle.touched.specs.Touched.{hasMinute, rowNamed, nearRow, forwardTouched, abovePrior, belowNext, inverseTouched, geographicTouched, planeTouched};
 
@@ -23,7 +23,7 @@ fn has_minute(s: &[u8], place: Place, minute: i32) -> bool
     ensures { λ r. ⌜ r ≡ hasMinute (now (s .entry)) minute ⌝ }
 {
     let n = place.rows;
-    let w = contents::width_of(contents::LATITUDE);
+    let w = entries::width_of(entries::LATITUDE);
     let a = 4 * place.start;
     let z = a + 4 * (n * w);
     correct::has_row(&s[a..z], n, minute)
@@ -35,7 +35,7 @@ fn row_named(s: &[u8], place: Place, minute: i32) -> usize
     ensures { λ r. ⌜ (r ≡ rowNamed (now (s .entry)) minute) × (r < rowsOf (now (s .entry)) latitude) ⌝ }
 {
     let n = place.rows;
-    let w = contents::width_of(contents::LATITUDE);
+    let w = entries::width_of(entries::LATITUDE);
     let a = 4 * place.start;
     let z = a + 4 * (n * w);
     correct::named_row(&s[a..z], n, minute)
@@ -96,7 +96,7 @@ fn may_move_earth(s: &[u8], p: Places, r: usize, x: i32, y: i32) -> bool
     if !extent::northing_known(s, p, y) {
         return false;
     }
-    let reduced = convert::reduced_northing(s, p, figures::size(xp), y);
+    let reduced = inverse::reduced_northing(s, p, figures::size(xp), y);
     above_prior(s, p, r, reduced) & below_next(s, p, r, reduced)
 }
 
@@ -130,7 +130,7 @@ pub fn geographic_touched(sheet: &[u8], minute: i32, latitude: i32, longitude: i
     }
     forward_touched(
         sheet,
-        contents::places_of(sheet),
+        entries::places_of(sheet),
         minute,
         latitude,
         longitude,
@@ -166,5 +166,5 @@ pub fn plane_touched(sheet: &[u8], minute: i32, x: i32, y: i32) -> Touch
             touched: false,
         };
     }
-    inverse_touched(sheet, contents::places_of(sheet), minute, x, y)
+    inverse_touched(sheet, entries::places_of(sheet), minute, x, y)
 }

@@ -1,6 +1,6 @@
 // Works the sources' samples: those of Indiana and Hawaii on their sheets, with the figures on the way, and those of Illinois and Vermont, of which there is no
 // sheet, from the figures that their forms print. Prints the answers by the rules; a comment says where a form prints another.
-use contents::Places;
+use entries::Places;
 use libc::STDOUT_FILENO;
 ghost use mathlib.Core.Path.{_≡_};
 ghost use mathlib.Core.Bool.{true};
@@ -10,8 +10,8 @@ ghost use lib.IntN.{pos, natAbs, _+ℤ_, _-ℤ_, _*ℤ_};
 ghost use lib.Signed.{nonNeg};
 ghost use lib.ListN.{length};
 ghost use Rattle.figures.specs.Ranges.{mostH, mostV, mostA, mostB, mostC, mostP, mostM, mostD, mostS, mostX, mostWord};
-ghost use Rattle.contents.specs.Layout.{latitude, longitude, easting, stepOf};
-ghost use Rattle.contents.specs.Entries.{rowsOf, placesOf};
+ghost use Rattle.entries.specs.Layout.{latitude, longitude, easting, stepOf};
+ghost use Rattle.entries.specs.Entries.{rowsOf, placesOf};
 ghost use Rattle.bodies.specs.Check.{checkOf};
 ghost use Rattle.extent.specs.Extent.{latitudeKnown, longitudeKnown, northingKnown};
 
@@ -171,7 +171,7 @@ fn work(sheet: &[u8], n: usize, points: &[[i32; 4]])
 {
     let s = &sheet[0..n];
     if bodies::check(s).number == 0 {
-        station_each(s, contents::places_of(s), points);
+        station_each(s, entries::places_of(s), points);
     }
 }
 

@@ -5,10 +5,11 @@ use mathlib.Core.Path.{_≡_}
 use Prim.Native.Nat.{_+_, _*_, _-_, _≤_}
 use Rattle.words.specs.Faults.{firstFault}
 use Rattle.words.proofs.FirstFault.{on, here, end}
-use Rattle.contents.specs.Layout.{entryCount, firstBody}
-use Rattle.contents.specs.Entries.{dueAt}
+use Rattle.entries.specs.Layout.{entryCount, firstBody}
+use Rattle.entries.specs.Entries.{dueAt}
 use Rattle.contents.specs.Contents.{entryFault}
-use Rattle.contents.proofs.Spans.{due-next, fault-known}
+use Rattle.entries.proofs.Spans.{due-next}
+use Rattle.contents.proofs.Limits.{fault-known}
 use Rattle.contents.proofs.entries.Statement.{statement}
 use Rattle.contents.proofs.entries.Tie as tie
 

@@ -2,9 +2,9 @@
 use mathlib.Core.Path.{_≡_, sym, ap, _∙_}
 use mir.Syntax.{w32}
 use mir.Val.{toZ, ofZ}
-use Rattle.convert.specs.Grid.{convergenceAndScale}
-use Rattle.convert.proofs.Checked.{grid-refused, sheet-long}
-use Rattle.convert.proofs.Bits.{both-same}
+use Rattle.grid.specs.Grid.{gridOf}
+use Rattle.convert.proofs.Checked.{grid-passes, grid-refused, sheet-long}
+use Rattle.figures.proofs.Bits.{both-same}
 use borrow.Author.Needs.{needs}
 use Rattle.convert.proofs.convergence_and_scale.Statement.{statement}
 use Rattle.convert.proofs.convergence_and_scale.Tie as tie
@@ -17,7 +17,8 @@ returns-2 c =
     let start = c .before .before .before .before .before in
     let one : toZ w32 (ofZ w32 (start .args .x)) ≡ start .args .x = search needs in
     let two : toZ w32 (ofZ w32 (start .args .y)) ≡ start .args .y = search needs in
-    c .convergence .ensures ∙ both-same (convergenceAndScale _) one two
+    let passes = sym (ap (λ v. v .number) (c .before .before .before .check .ensures)) ∙ c .before .before .if1 .left in
+    grid-passes _ _ _ _ passes (c .convergence .ensures ∙ both-same (gridOf _) one two)
 
 check-requires : tie.Need-check-requires
 check-requires c κs = search needs

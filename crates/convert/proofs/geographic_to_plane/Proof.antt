@@ -2,9 +2,9 @@
 use mathlib.Core.Path.{_≡_, sym, ap, _∙_}
 use mir.Syntax.{w32}
 use mir.Val.{toZ, ofZ}
-use Rattle.convert.specs.Forward.{geographicToPlane}
-use Rattle.convert.proofs.Checked.{forward-refused, sheet-long}
-use Rattle.convert.proofs.Bits.{both-same}
+use Rattle.forward.specs.Forward.{forwardOf}
+use Rattle.convert.proofs.Checked.{forward-passes, forward-refused, sheet-long}
+use Rattle.figures.proofs.Bits.{both-same}
 use borrow.Author.Needs.{needs}
 use Rattle.convert.proofs.geographic_to_plane.Statement.{statement}
 use Rattle.convert.proofs.geographic_to_plane.Tie as tie
@@ -17,7 +17,8 @@ returns-2 c =
     let start = c .before .before .before .before .before in
     let one : toZ w32 (ofZ w32 (start .args .latitude)) ≡ start .args .latitude = search needs in
     let two : toZ w32 (ofZ w32 (start .args .longitude)) ≡ start .args .longitude = search needs in
-    c .forward .ensures ∙ both-same (geographicToPlane _) one two
+    let passes = sym (ap (λ v. v .number) (c .before .before .before .check .ensures)) ∙ c .before .before .if1 .left in
+    forward-passes _ _ _ _ passes (c .forward .ensures ∙ both-same (forwardOf _) one two)
 
 check-requires : tie.Need-check-requires
 check-requires c κs = search needs

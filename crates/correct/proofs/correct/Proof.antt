@@ -4,7 +4,7 @@ use lib.Dec.{lit≤}
 use denote.Ref.{now}
 use mir.Syntax.{w32}
 use mir.Val.{toZ, ofZ}
-use Rattle.contents.specs.Layout.{latitude}
+use Rattle.entries.specs.Layout.{latitude}
 use Rattle.contents.specs.Contents.{numberOf, contentsOf}
 use Rattle.bodies.proofs.Parts.{long-enough, part-within, part-some, words-fit, start-fits, bytes-fit, end-fits}
 use Rattle.correct.specs.Correction.{figures}

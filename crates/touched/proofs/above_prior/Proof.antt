@@ -4,7 +4,7 @@ use native.Mathlib.Omega.{arith}
 use mir.Syntax.{w64}
 use mir.Val.{toZ, ofZ}
 use Rattle.figures.proofs.Holds.{held-literal, difference, difference-fits}
-use Rattle.convert.proofs.Bits.{bits-is}
+use Rattle.figures.proofs.Bits.{bits-is}
 use Rattle.touched.proofs.Beside.{above-is, from-least, two-rows, y0-held}
 use borrow.Author.Needs.{needs}
 use Rattle.touched.proofs.above_prior.Statement.{statement}

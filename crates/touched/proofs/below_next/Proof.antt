@@ -6,10 +6,10 @@ use denote.Ref.{now}
 use mir.Syntax.{w64}
 use mir.Val.{toZ, ofZ}
 use Rattle.figures.proofs.Holds.{held-literal, sum, sum-fits}
-use Rattle.contents.specs.Layout.{latitude}
-use Rattle.contents.specs.Entries.{rowsOf}
+use Rattle.entries.specs.Layout.{latitude}
+use Rattle.entries.specs.Entries.{rowsOf}
 use Rattle.extent.proofs.Counts.{count-is}
-use Rattle.convert.proofs.Bits.{bits-is}
+use Rattle.figures.proofs.Bits.{bits-is}
 use Rattle.touched.proofs.Beside.{below-is, to-greatest, next-fits, two-rows, y0-held}
 use borrow.Author.Needs.{needs}
 use Rattle.touched.proofs.below_next.Statement.{statement}

@@ -5,7 +5,7 @@ use mir.Syntax.{w32}
 use mir.Val.{toZ, ofZ}
 use Rattle.words.proofs.Refusals.{kept}
 use Rattle.tables.proofs.ByName.{latitude-place}
-use Rattle.convert.proofs.Bits.{both-same}
+use Rattle.figures.proofs.Bits.{both-same}
 use Rattle.touched.specs.Touched.{hasMinute, rowNamed, inverseTouched}
 use Rattle.touched.proofs.Answered.{plane-none, plane-passes}
 use borrow.Author.Needs.{needs}

@@ -7,8 +7,8 @@ use mir.Val.{toZ, ofZ}
 use Rattle.words.proofs.Refusals.{stop, go, kept}
 use Rattle.extent.specs.Extent.{xPrime, eastingKnown, northingKnown}
 use Rattle.extent.proofs.Reach.{easting-reach}
-use Rattle.convert.specs.Inverse.{reducedNorthing}
-use Rattle.convert.proofs.Bits.{bits-is, bits-below}
+use Rattle.inverse.specs.Inverse.{reducedNorthing}
+use Rattle.figures.proofs.Bits.{bits-is, bits-below}
 use Rattle.touched.specs.Touched.{inverseTouched}
 use Rattle.touched.proofs.Beside.{beside-is}
 use borrow.Author.Needs.{needs}

@@ -5,7 +5,7 @@ use mir.Syntax.{w32}
 use mir.Val.{toZ, ofZ}
 use Rattle.words.proofs.Refusals.{stop, go}
 use Rattle.extent.specs.Extent.{latitudeKnown, longitudeKnown}
-use Rattle.convert.proofs.Bits.{both-same}
+use Rattle.figures.proofs.Bits.{both-same}
 use Rattle.touched.specs.Touched.{nearRow, forwardTouched}
 use borrow.Author.Needs.{needs}
 use Rattle.touched.proofs.may_move_plane.Statement.{statement}

@@ -1,7 +1,7 @@
 -- `worked::back` meets its contract. Assumes nothing.
 use Rattle.words.proofs.Refusals.{kept}
 use Rattle.extent.proofs.Reach.{easting-reach}
-use Rattle.convert.proofs.Bits.{bits-below}
+use Rattle.figures.proofs.Bits.{bits-below}
 use borrow.Author.Needs.{needs}
 use Rattle.worked.proofs.back.Statement.{statement}
 use Rattle.worked.proofs.back.Tie as tie

@@ -6,7 +6,7 @@ use mir.Val.{toZ, ofZ}
 use Rattle.tables.proofs.Answers.{size-is, size-fits}
 use Rattle.extent.specs.Extent.{fromFirst, lOf}
 use Rattle.extent.proofs.Reach.{latitude-reach, latitude-small, longitude-reach}
-use Rattle.convert.proofs.Bits.{bits-is, bits-below}
+use Rattle.figures.proofs.Bits.{bits-is, bits-below}
 use borrow.Author.Needs.{needs}
 use Rattle.worked.proofs.show_point.Statement.{statement}
 use Rattle.worked.proofs.show_point.Tie as tie

@@ -12,8 +12,8 @@ use Rattle.figures.proofs.Holds.{Holds, difference-fits, unsigned-fits}
 use Rattle.tables.specs.Figures.{pAt, dAt}
 use Rattle.extent.proofs.Reach.{northing-reach, easting-span}
 use Rattle.extent.proofs.Points.{wide, wide-fits}
-use Rattle.convert.proofs.Longitudes.{reduction-worked, reduction-small}
-use Rattle.convert.proofs.Bits.{bits-is, bits-most, bits-hold}
+use Rattle.inverse.proofs.Longitudes.{reduction-worked, reduction-small}
+use Rattle.figures.proofs.Bits.{bits-is, bits-most, bits-hold}
 use borrow.Author.Needs.{needs}
 use Rattle.worked.proofs.show_reduction.Statement.{statement}
 use Rattle.worked.proofs.show_reduction.Tie as tie

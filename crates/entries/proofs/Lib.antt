@@ -1,0 +1,6 @@
+-- Laws of the entries and of the kinds. Other crates cite them.
+pub mod ByKind
+pub mod ByTable
+pub mod Search
+pub mod Spans
+pub mod EachKind

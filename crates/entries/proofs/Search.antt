@@ -1,0 +1,49 @@
+-- The laws that a search down the entries goes by: i entries are left, and x is the kind that the last of them names. Assumes nothing.
+use mathlib.Core.Path.{_≡_, sym, _∙_}
+use mathlib.Core.Bool.{true, false}
+use mathlib.Core.List.{List}
+use Prim.Native.Nat.{ℕ, suc, _-_, _<_, _≤_}
+use native.Mathlib.Omega.{arith}
+use borrow.Author.Tests.{eq-eqb, ne-eqb}
+use Rattle.entries.specs.Entries.{kindAt, named, entryOf}
+
+module _ (s : List ℕ) (kind n i : ℕ) (l : n ≡ suc i) where
+  one-named : kindAt s i ≡ kind → named s kind n ≡ true
+  unfolding named
+  one-named e = rw (l, eq-eqb (kindAt s i) kind e)
+
+  one-unnamed : (kindAt s i ≡ kind → ⊥) → named s kind n ≡ named s kind i
+  unfolding named
+  one-unnamed e = rw (l, ne-eqb (kindAt s i) kind e)
+
+  one-found : kindAt s i ≡ kind → entryOf s kind n ≡ i
+  unfolding entryOf
+  one-found e = rw (l, eq-eqb (kindAt s i) kind e)
+
+  one-passed : (kindAt s i ≡ kind → ⊥) → entryOf s kind n ≡ entryOf s kind i
+  unfolding entryOf
+  one-passed e = rw (l, ne-eqb (kindAt s i) kind e)
+
+-- ---- whether an entry names the kind
+module _ (s : List ℕ) (kind n i : ℕ) (passed : named s kind n ≡ named s kind i) where
+  pub named-here : {x : ℕ} → 0 < i → x ≡ kindAt s (i - 1) → x ≡ kind → true ≡ named s kind n
+  named-here h k q = sym (passed ∙ one-named s kind i (i - 1) (omega arith) (sym k ∙ q))
+
+  pub named-on : {x : ℕ} → 0 < i → x ≡ kindAt s (i - 1) → (x ≡ kind → ⊥) → named s kind n ≡ named s kind (i - 1)
+  named-on h k q = passed ∙ one-unnamed s kind i (i - 1) (omega arith) (λ z. q (k ∙ z))
+
+  pub named-end : i ≤ 0 → false ≡ named s kind n
+  unfolding named
+  named-end h = let l : i ≡ 0 = omega arith in sym (passed ∙ rw l)
+
+-- ---- which entry does
+module _ (s : List ℕ) (kind n i : ℕ) (passed : entryOf s kind n ≡ entryOf s kind i) where
+  pub found-here : {x : ℕ} → 0 < i → x ≡ kindAt s (i - 1) → x ≡ kind → i - 1 ≡ entryOf s kind n
+  found-here h k q = sym (passed ∙ one-found s kind i (i - 1) (omega arith) (sym k ∙ q))
+
+  pub found-on : {x : ℕ} → 0 < i → x ≡ kindAt s (i - 1) → (x ≡ kind → ⊥) → entryOf s kind n ≡ entryOf s kind (i - 1)
+  found-on h k q = passed ∙ one-passed s kind i (i - 1) (omega arith) (λ z. q (k ∙ z))
+
+  pub found-end : i ≤ 0 → 0 ≡ entryOf s kind n
+  unfolding entryOf
+  found-end h = let l : i ≡ 0 = omega arith in sym (passed ∙ rw l)

@@ -1,0 +1,16 @@
+-- `entries::named_before` meets its contract. Assumes nothing.
+use borrow.Author.Needs.{needs}
+use Rattle.entries.proofs.named_before.Statement.{statement}
+use Rattle.entries.proofs.named_before.Tie as tie
+
+returns : tie.Need-returns
+returns c = cc
+
+kind-at-requires : tie.Need-kind-at-requires
+kind-at-requires c κs = search needs
+
+is-named-requires : tie.Need-is-named-requires
+is-named-requires c κs = search needs
+
+pub named-before-spec : {M : Type 1} → statement M
+named-before-spec = tie.close (tie.spec kind-at-requires is-named-requires returns)

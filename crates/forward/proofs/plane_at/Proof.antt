@@ -1,0 +1,94 @@
+-- `forward::plane_at` meets its contract. Assumes nothing.
+use mathlib.Core.Path.{_≡_, ap, _∙_}
+use Prim.Native.Nat.{_-_, _*_, _≤_}
+use denote.Ref.{now}
+use mir.Syntax.{w32, w64}
+use mir.Val.{toZ, ofZ}
+use Rattle.entries.specs.Layout.{longitude, stepOf}
+use Rattle.entries.specs.Entries.{rowsOf}
+use Rattle.tables.specs.Figures.{bAt}
+use Rattle.tables.proofs.Answers.{size-is, size-fits}
+use Rattle.extent.specs.Extent.{fromFirst, lOf}
+use Rattle.extent.proofs.Reach.{latitude-reach, latitude-small, longitude-reach}
+use Rattle.forward.proofs.Eastings.{plane-worked}
+use Rattle.figures.proofs.Bits.{bits-is, bits-below}
+use borrow.Author.Needs.{needs}
+use Rattle.forward.proofs.plane_at.Statement.{statement}
+use Rattle.forward.proofs.plane_at.Tie as tie
+
+-- the latitude's distance from row 0, and L, as they were worked
+distance-is : (c : tie.After-from-first) → c .from-first .result ≡ fromFirst (now (c .before .before .args .s)) (c .before .before .args .latitude)
+distance-is c =
+    let north : toZ w32 (ofZ w32 (c .before .before .args .latitude)) ≡ c .before .before .args .latitude = search needs in
+    c .from-first .ensures ∙ ap (fromFirst _) north
+
+l-is : (c : tie.After-l-of) → toZ w64 (ofZ w64 (c .l-of .result)) ≡ lOf (now (c .before .before .before .args .s)) (c .before .before .before .args .longitude)
+l-is c =
+    let west : toZ w32 (ofZ w32 (c .before .before .before .args .longitude)) ≡ c .before .before .before .args .longitude = search needs in
+    bits-is (c .l-of .ok) ∙ c .l-of .ensures .0 ∙ ap (lOf _) west
+
+returns : tie.Need-returns
+returns c =
+    let p = c .before .before .before .before .before .before .before .before .pre in
+    let distance = c .before .before .before .before .before .before in
+    let t = size-is (distance .from-first .ok) (distance-is distance) (latitude-reach _ _ (p .2)) in
+    let x : toZ w32 (ofZ w32 (c .before .x-of .result)) ≡ c .before .x-of .result = search needs in
+    let y : toZ w32 (ofZ w32 (c .y-of .result)) ≡ c .y-of .result = search needs in
+    plane-worked _ _ _ t (l-is (c .before .before .before .before .before)) (c .before .before .before .before .size .ensures) x (c .before .x-of .ensures) y (c .y-of .ensures)
+
+from-first-requires : tie.Need-from-first-requires
+from-first-requires c κs = search needs
+
+cast-t : tie.Need-cast-t
+cast-t c =
+    let p = c .before .before .pre in
+    size-fits (c .from-first .ok) (distance-is c) (latitude-small _ (p .0) _ (p .2)) tt
+
+l-of-requires : tie.Need-l-of-requires
+l-of-requires c κs = search needs
+
+size-requires : tie.Need-size-requires
+size-requires c κs = bits-below (c .l-of .result) (c .l-of .ok) (c .l-of .ensures .1) tt
+
+-- the size of L is within its table
+size-reach : (c : tie.After-size) → let s = now (c .before .before .before .before .args .s) in c .size .result ≤ (rowsOf s longitude - 1) * stepOf longitude
+size-reach c = rw (c .size .ensures, l-is (c .before)) (longitude-reach _ _ (c .before .before .before .before .pre .3))
+
+c-at-requires : tie.Need-c-at-requires
+c-at-requires c κs =
+    let p = c .before .before .before .before .pre in
+    (p .0, p .1, size-reach c)
+
+b-at-requires : tie.Need-b-at-requires
+b-at-requires c κs =
+    let p = c .before .before .before .before .before .pre in
+    (p .0, p .1, size-reach (c .before))
+
+x-of-requires : tie.Need-x-of-requires
+x-of-requires c κs =
+    let p = c .before .before .before .before .before .before .pre in
+    let distance = c .before .before .before .before in
+    let t = size-is (distance .from-first .ok) (distance-is distance) (latitude-reach _ _ (p .2)) in
+    let size = c .before .before .size .ensures in
+    (p .0, p .1, rw t (latitude-reach _ _ (p .2) .high), rw (l-is (c .before .before .before)) (longitude-reach _ _ (p .3)), bits-is (c .b-at .ok) ∙ c .b-at .ensures .0 ∙ ap (bAt _) size)
+
+y-of-requires : tie.Need-y-of-requires
+y-of-requires c κs =
+    let p = c .before .before .before .before .before .before .before .pre in
+    let distance = c .before .before .before .before .before in
+    let t = size-is (distance .from-first .ok) (distance-is distance) (latitude-reach _ _ (p .2)) in
+    (p .0, p .1, rw t (latitude-reach _ _ (p .2) .high), size-reach (c .before .before .before), bits-is (c .before .before .c-at .ok) ∙ c .before .before .c-at .ensures .0)
+
+pub plane-at-spec : {M : Type 1} → statement M
+plane-at-spec =
+    tie.close
+    (tie.spec
+    from-first-requires
+    cast-t
+    l-of-requires
+    size-requires
+    c-at-requires
+    b-at-requires
+    x-of-requires
+    y-of-requires
+    returns)

@@ -1,0 +1,41 @@
+-- "Geographic to plane." Latitude and longitude in 0.001″, x and y in 0.01 ft. s is the sheet.
+use mathlib.Core.List.{List}
+use Prim.Native.Nat.{ℕ}
+use lib.IntN.{ℤ, pos, natAbs, _+ℤ_}
+use Rattle.figures.specs.Nearest.{withSign}
+use Rattle.figures.specs.Steps.{qOf, sizeOfX, rise}
+use Rattle.words.specs.Ladder.{need}
+use Rattle.tables.specs.Figures.{falseEasting, y0At, hAt, vAt, aAt, bAt, cAt}
+use Rattle.extent.specs.Extent.{fromFirst, latitudeKnown, lOf, longitudeKnown}
+use Rattle.forward.specs.declared.Plane.{Plane}
+
+-- The answer: x and y, in 0.01 ft. "A refused conversion carries zeros."
+abbrev pub plane : ℕ → ℤ → ℤ → Plane
+plane number x y = record { number = number; x = x; y = y }
+
+abbrev pub noPlane : ℕ → Plane
+noPlane number = plane number (pos 0) (pos 0)
+
+-- "From latitude take y0, H, V, a; from s take b, c." t is the latitude's distance from row 0, and size is s, the size of L.
+-- "The size of x′ is the nearest hundredth of H·s + a·b"
+unfoldable pub xSize : List ℕ → ℕ → ℕ → ℤ
+xSize s t size = sizeOfX (hAt s t) size (aAt s t) (bAt s size)
+
+-- "with the sign of L; x = x′ + C."
+unfoldable pub xOf : List ℕ → ℕ → ℤ → ℤ
+xOf s t l = withSign l (xSize s t (natAbs l)) +ℤ falseEasting s
+
+-- "y = y0 + nearest hundredth of (V·q + c)."
+unfoldable pub yOf : List ℕ → ℕ → ℕ → ℤ
+yOf s t size = y0At s t +ℤ rise (vAt s t) (qOf size) (cAt s size)
+
+-- The point on the plane.
+unfoldable pub planeAt : List ℕ → ℤ → ℤ → Plane
+planeAt s north west = plane 0 (xOf s (natAbs (fromFirst s north)) (lOf s west)) (yOf s (natAbs (fromFirst s north)) (natAbs (lOf s west)))
+
+-- "forward 10, 11", on a sheet that passes
+unfoldable pub forwardOf : List ℕ → ℤ → ℤ → Plane
+forwardOf s north west =
+    need (latitudeKnown s north) (noPlane 10)
+    (need (longitudeKnown s west) (noPlane 11)
+    (planeAt s north west))

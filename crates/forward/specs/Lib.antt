@@ -1,0 +1,2 @@
+-- The definition of geographic to plane, by 01's steps.
+pub mod Forward

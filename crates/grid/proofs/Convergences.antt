@@ -1,0 +1,35 @@
+-- Convergence and scale on a sheet that passes: both fit 32 bits. Assumes nothing.
+use mathlib.Core.Path.{_≡_, _∙_}
+use mathlib.Core.Bool.{true}
+use mathlib.Core.List.{List}
+use Prim.Native.Nat.{ℕ, _≤_}
+use native.Mathlib.Nat.{le-trans}
+use lib.Dec.{lit≤}
+use lib.IntN.{ℤ, natAbs}
+use Rattle.figures.specs.Steps.{convergence}
+use Rattle.figures.proofs.StepBounds.{convergence-most}
+use Rattle.bodies.specs.Check.{checkOf}
+use Rattle.tables.specs.Figures.{mAt, kAt}
+use Rattle.tables.proofs.Ranges.{m-between}
+use Rattle.extent.specs.Extent.{scaleKnown, northingKnown}
+use Rattle.extent.proofs.Reach.{scale-reach, scale-span, northing-reach}
+use Rattle.grid.specs.Grid.{grid, convergenceAt, gridAt}
+
+module _ (s : List ℕ) (xp y : ℤ) where
+  -- the step, from the figures as they were read: a number with ′ has the bits of the one without
+  pub convergence-worked : {m : ℕ} {xp′ y′ : ℤ} → xp′ ≡ xp → y′ ≡ y → m ≡ mAt s (natAbs y′) → convergence m xp′ ≡ convergenceAt s xp y
+  unfolding convergenceAt
+  convergence-worked e f g = rw (e, g, f)
+
+  pub grid-worked : {a a′ k k′ : ℤ} → a′ ≡ a → a ≡ convergenceAt s xp y → k′ ≡ k → k ≡ kAt s (natAbs xp) → grid 0 a′ k′ ≡ gridAt s xp y
+  unfolding gridAt
+  grid-worked e f g h = rw (e ∙ f, g ∙ h)
+
+  module _ (z : checkOf s .number ≡ 0) (there : scaleKnown s xp ≡ true) where
+    pub xp-most : natAbs xp ≤ 99_500_000
+    xp-most = le-trans (scale-reach s xp there) (scale-span s z)
+
+    pub convergence-small : northingKnown s y ≡ true → natAbs (convergenceAt s xp y) ≤ 21_474_837
+    unfolding convergenceAt mAt
+    convergence-small known =
+        convergence-most (mAt s (natAbs y)) xp (m-between s z (natAbs y) (northing-reach s y known .high) .high) (le-trans xp-most (lit≤ tt))

@@ -1,0 +1,52 @@
+// Convergence and scale at a plane point, on a sheet known to pass, with its places in hand: 12, 13, or Δα and k.
+use entries::Places;
+ghost use mathlib.Core.Path.{_≡_};
+ghost use mathlib.Core.Bool.{true};
+ghost use Rattle.entries.specs.Entries.{placesOf};
+ghost use Rattle.bodies.specs.Check.{checkOf};
+ghost use Rattle.extent.specs.Extent.{scaleKnown, northingKnown};
+ghost use Rattle.grid.specs.Grid.{gridAt, gridOf};
+
+// The grid at a point: the convergence Δα in 0.1″ and the scale k in 10⁻⁷. A refusal has its number and zeros.
+pub struct Grid {
+    pub number: u32,
+    pub convergence: i32,
+    pub scale: i32,
+}
+
+// The grid at a point within the tables.
+fn grid_at(s: &[u8], p: Places, xp: i64, y: i32) -> Grid
+    requires { ⌜ (checkOf (now s) .number ≡ 0) × (p ≡ placesOf (now s)) × (scaleKnown (now s) xp ≡ true) × (northingKnown (now s) y ≡ true) ⌝ }
+    ensures { λ r. ⌜ r ≡ gridAt (now (s .entry)) xp y ⌝ }
+{
+    let m = tables::m_at(s, p, (y as i64) as u64);
+    let k = tables::k_at(s, p, figures::size(xp));
+    Grid {
+        number: 0,
+        convergence: figures::convergence(m, xp) as i32,
+        scale: k as i32,
+    }
+}
+
+// Convergence and scale: 12, 13, or Δα and k.
+pub fn convergence(s: &[u8], p: Places, x: i32, y: i32) -> Grid
+    requires { ⌜ (checkOf (now s) .number ≡ 0) × (p ≡ placesOf (now s)) ⌝ }
+    ensures { λ r. ⌜ r ≡ gridOf (now (s .entry)) x y ⌝ }
+{
+    let xp = extent::x_prime(s, p, x);
+    if !extent::scale_known(s, p, xp) {
+        return Grid {
+            number: 12,
+            convergence: 0,
+            scale: 0,
+        };
+    }
+    if !extent::northing_known(s, p, y) {
+        return Grid {
+            number: 13,
+            convergence: 0,
+            scale: 0,
+        };
+    }
+    grid_at(s, p, xp, y)
+}

@@ -1,0 +1,85 @@
+-- Plane to geographic on a sheet that passes: approximate L, the size of L, which is not negative, and the point, which fits 32 bits. Assumes nothing.
+use mathlib.Core.Path.{_≡_, _∙_}
+use mathlib.Core.Bool.{true}
+use mathlib.Core.List.{List}
+use Prim.Native.Nat.{ℕ, zero, suc, _*_, _-_, _≤_}
+use native.Mathlib.Nat.{le-trans, mul-le-mul-left}
+use native.Mathlib.Omega.{arith}
+use lib.Dec.{T, lit≤}
+use lib.IntN.{ℤ, pos, negℤ, natAbs, _+ℤ_, _-ℤ_, _*ℤ_}
+use lib.Signed.{nonNeg}
+use Rattle.figures.specs.Ranges.{mostA, mostX}
+use Rattle.figures.specs.Steps.{approximateL, sizeOfL, reduction}
+use Rattle.figures.proofs.Sizes.{Size, size-from, sum-nonNeg, size-minus, size-product, product-most}
+use Rattle.figures.proofs.Rounding.{IsNearest, is-nearest}
+use Rattle.figures.proofs.StepBounds.{reduction-most, approximate-most, l-size-most}
+use Rattle.entries.specs.Layout.{latitude, northing, easting, stepOf}
+use Rattle.entries.specs.Entries.{rowsOf}
+use Rattle.bodies.specs.Check.{checkOf}
+use Rattle.tables.specs.Figures.{firstLatitude, hAt, aAt, bAt, pAt, dAt}
+use Rattle.tables.proofs.Ranges.{h-least, a-most, b-between, b-slope, p-between, d-between}
+use Rattle.extent.specs.Extent.{sizeKnown}
+use Rattle.extent.proofs.Reach.{easting-span, size-reach}
+use Rattle.inverse.specs.Inverse.{geographic, approximateOf, sizeOf, longitudeOf, geographicAt}
+
+-- ---- the steps, from the figures as they were read: a number with ′ has the bits of the one without
+pub reduction-worked : (s : List ℕ) (x : ℕ) (y : ℤ) {p : ℕ} {y′ d d′ : ℤ} → y′ ≡ y → p ≡ pAt s (natAbs y′) → d′ ≡ d → d ≡ dAt s x
+    → reduction p x d′ ≡ reduction (pAt s (natAbs y)) x (dAt s x)
+reduction-worked s x y e f g k = rw (g ∙ k, f, e)
+
+module _ (s : List ℕ) (x t : ℕ) where
+  pub approximate-worked : {h : ℕ} → h ≡ hAt s t → approximateL x h * 1_000 ≡ approximateOf s x t
+  unfolding approximateOf
+  approximate-worked e = rw e
+
+  pub size-worked : {n h : ℕ} {a a′ b b′ : ℤ} → n ≡ approximateOf s x t → h ≡ hAt s t → a′ ≡ a → a ≡ aAt s t → b′ ≡ b → b ≡ bAt s n → sizeOfL x a′ b′ h ≡ sizeOf s x t
+  unfolding sizeOf
+  size-worked n h e f g k = rw (e ∙ f, g ∙ k, n, h)
+
+pub geographic-worked : (s : List ℕ) (xp : ℤ) (t : ℕ) {north north′ west west′ : ℤ} → north′ ≡ north → north ≡ firstLatitude s +ℤ pos t → west′ ≡ west → west ≡ longitudeOf s xp t
+    → geographic 0 north′ west′ ≡ geographicAt s xp t
+unfolding geographicAt
+geographic-worked s xp t e f g k = rw (e ∙ f, g ∙ k)
+
+-- ---- sizes: n is approximate L in whole seconds, for H of at least 30 and |x′| in 0.01 ft
+approximate-low : (x h n : ℕ) → 30_000_000 ≤ h → IsNearest (x * 10_000) h n → 1_500 * n ≤ x
+approximate-low x h zero l near = omega arith
+approximate-low x h (suc n) l near = omega (arith, near .low, mul-le-mul-left (suc n) l)
+
+-- ---- at a place within the tables
+pub reduction-small : (s : List ℕ) → checkOf s .number ≡ 0 → (x y : ℕ) → x ≤ (rowsOf s easting - 1) * stepOf easting → y ≤ (rowsOf s northing - 1) * stepOf northing
+    → natAbs (reduction (pAt s y) x (dAt s x)) ≤ 8_100_100
+unfolding pAt
+reduction-small s z x y hx hy =
+    reduction-most (pAt s y) x (dAt s x) (p-between s z y hy .high) (le-trans hx (le-trans (easting-span s z) (lit≤ tt))) (d-between s z x hx)
+
+module _ (s : List ℕ) (z : checkOf s .number ≡ 0) (x t : ℕ) (hx : x ≤ (rowsOf s easting - 1) * stepOf easting) (ht : t ≤ (rowsOf s latitude - 1) * stepOf latitude) where
+  pub x-small : x ≤ mostX
+  x-small = le-trans hx (le-trans (easting-span s z) (lit≤ tt))
+
+  pub approximate-small : approximateOf s x t ≤ 30_000_000
+  unfolding approximateOf
+  approximate-small = omega (arith, approximate-most x (hAt s t) x-small (h-least s z t ht))
+
+  -- |x′| − a·b is not negative
+  pub l-not-negative : sizeKnown s (pos (approximateOf s x t)) ≡ true → T (nonNeg (pos (x * 10_000) -ℤ aAt s t *ℤ bAt s (approximateOf s x t)))
+  unfolding approximateOf approximateL
+  l-not-negative known =
+      let size = approximateOf s x t in
+      let b = b-slope s z size (size-reach s (pos size) known .high) in
+      let near = is-nearest (x * 10_000) (hAt s t) (omega (arith, h-least s z t ht)) in
+      let low = approximate-low x (hAt s t) (approximateL x (hAt s t)) (h-least s z t ht) near in
+      sum-nonNeg (x * 10_000) (negℤ (aAt s t *ℤ bAt s size))
+      (rw (size-minus (aAt s t *ℤ bAt s size), size-product (aAt s t) (bAt s size)) (omega (arith, low, product-most mostA size (a-most s z t ht) b)))
+
+  module _ (known : sizeKnown s (pos (approximateOf s x t)) ≡ true) where
+    -- the same of the figures as they were read, at n
+    pub l-asked : {n : ℕ} {a a′ b b′ : ℤ} → n ≡ approximateOf s x t → a′ ≡ a → a ≡ aAt s t → b′ ≡ b → b ≡ bAt s n → T (nonNeg (pos (x * 10_000) -ℤ a′ *ℤ b′))
+    l-asked n e f g k = rw (e ∙ f, g ∙ k, n) (l-not-negative known)
+
+    -- r is the size of L as a size
+    pub l-between : {r : ℕ} → pos r ≡ sizeOf s x t → Size 0 (sizeOf s x t) 900_040_000_000_000
+    unfolding sizeOf
+    l-between e =
+        let approximate = approximateOf s x t in
+        size-from e (l-size-most x (aAt s t) (bAt s approximate) (hAt s t) x-small (a-most s z t ht) (b-between s z approximate (size-reach s (pos approximate) known .high)) (omega (arith, h-least s z t ht)))

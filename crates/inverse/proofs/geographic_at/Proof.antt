@@ -1,0 +1,94 @@
+-- `inverse::geographic_at` meets its contract. Assumes nothing.
+use mathlib.Core.Path.{_≡_, refl, _∙_}
+use Prim.Native.Nat.{_≤_}
+use native.Mathlib.Nat.{le-trans, lt-of-le-of-lt}
+use native.Mathlib.Omega.{arith}
+use lib.Dec.{lit<}
+use lib.IntN.{pos, natAbs}
+use Rattle.figures.specs.Ranges.{mostS}
+use denote.Ref.{now}
+use mir.Syntax.{w64}
+use mir.Val.{toZ, ofZ}
+use Rattle.figures.specs.Nearest.{withSign}
+use Rattle.figures.proofs.Sizes.{size-withSign}
+use Rattle.figures.proofs.Holds.{Holds, held-size, sum, sum-fits, difference, difference-fits, cast, cast-fits}
+use Rattle.tables.specs.Figures.{centralMeridian, firstLatitude}
+use Rattle.extent.proofs.Reach.{latitude-span, longitude-span, size-reach}
+use Rattle.inverse.specs.Inverse.{sizeOf, longitudeOf}
+use Rattle.inverse.proofs.Longitudes.{geographic-worked}
+use Rattle.figures.proofs.Bits.{bits-hold, both-same}
+use borrow.Author.Needs.{needs}
+use Rattle.inverse.proofs.geographic_at.Statement.{statement}
+use Rattle.inverse.proofs.geographic_at.Tie as tie
+
+-- the latitude, and the longitude, as they were worked
+distance : (c : tie.Start) → Holds w64 (c .args .t) (pos (c .args .t)) 71_940_000
+distance c = held-size w64 (le-trans (c .pre .2) (latitude-span _ (c .pre .0))) tt
+
+first : (c : tie.After-first-latitude) → Holds w64 (ofZ w64 (c .first-latitude .result)) (firstLatitude (now (c .before .before .args .s))) 324_000_000
+first c = bits-hold (c .first-latitude .ok) (c .first-latitude .ensures .0) (rw (c .first-latitude .ensures .0) at (c .first-latitude .ensures .1))
+
+central : (c : tie.After-central-meridian) → Holds w64 (ofZ w64 (c .central-meridian .result)) (centralMeridian (now (c .before .before .before .args .s))) 642_000_000
+central c = bits-hold (c .central-meridian .ok) (c .central-meridian .ensures .0) (rw (c .central-meridian .ensures .0) at (c .central-meridian .ensures .1))
+
+size-is : (c : tie.Start) → toZ w64 (ofZ w64 (c .args .size)) ≡ c .args .size
+size-is c = search needs
+
+size-small : (c : tie.Start) → natAbs (c .args .size) ≤ mostS
+size-small c = le-trans (size-reach _ _ (c .pre .4) .high) (longitude-span _ (c .pre .0))
+
+l-is : (c : tie.After-with-sign)
+    → let args = c .before .before .before .before .args in
+    Holds w64 (ofZ w64 (c .with-sign .result)) (withSign (args .xp) (sizeOf (now (args .s)) (natAbs (args .xp)) (args .t))) mostS
+l-is c =
+    let start = c .before .before .before .before in
+    let xp : toZ w64 (ofZ w64 (start .args .xp)) ≡ start .args .xp = search needs in
+    let same = both-same withSign xp (size-is start ∙ start .pre .3) in
+    bits-hold (c .with-sign .ok) (c .with-sign .ensures ∙ same) (rw (size-withSign, ← start .pre .3) (size-small start))
+
+returns : tie.Need-returns
+unfolding longitudeOf
+returns c =
+    let north = cast (sum (first (c .before .before)) (distance (c .before .before .before .before)) tt) tt in
+    let west = cast (difference (central (c .before)) (l-is c) tt) tt in
+    geographic-worked _ _ _ (north .is) refl (west .is) refl
+
+first-latitude-requires : tie.Need-first-latitude-requires
+first-latitude-requires c κs = search needs
+
+cast-t7 : tie.Need-cast-t7
+cast-t7 c =
+    let p = c .before .before .pre in
+    record { sfits = omega (arith, p .2, latitude-span _ (p .0)) }
+
+add-t8 : tie.Need-add-t8
+add-t8 c = sum-fits (first c) (distance (c .before .before)) tt
+
+cast-t9 : tie.Need-cast-t9
+cast-t9 c = cast-fits (sum (first c) (distance (c .before .before)) tt) tt
+
+central-meridian-requires : tie.Need-central-meridian-requires
+central-meridian-requires c κs = search needs
+
+with-sign-requires : tie.Need-with-sign-requires
+with-sign-requires c κs = rw (size-is (c .before .before .before)) (lt-of-le-of-lt (size-small (c .before .before .before)) (lit< tt))
+
+sub-t12 : tie.Need-sub-t12
+sub-t12 c = difference-fits (central (c .before)) (l-is c) tt
+
+cast-t13 : tie.Need-cast-t13
+cast-t13 c = cast-fits (difference (central (c .before)) (l-is c) tt) tt
+
+pub geographic-at-spec : {M : Type 1} → statement M
+geographic-at-spec =
+    tie.close
+    (tie.spec
+    first-latitude-requires
+    cast-t7
+    add-t8
+    cast-t9
+    central-meridian-requires
+    with-sign-requires
+    sub-t12
+    cast-t13
+    returns)

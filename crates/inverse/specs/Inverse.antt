@@ -1,0 +1,75 @@
+-- "Plane to geographic." x and y in 0.01 ft, latitude and longitude in 0.001″. s is the sheet, xp is x′, and x, where a step takes it, the size of x′.
+use mathlib.Core.List.{List}
+use Prim.Native.Nat.{ℕ, _+_, _*_}
+use lib.IntN.{ℤ, pos, natAbs, _+ℤ_, _-ℤ_}
+use Rattle.figures.specs.Nearest.{withSign}
+use Rattle.figures.specs.Steps.{reduction, seconds, approximateL, sizeOfL}
+use Rattle.words.specs.Ladder.{need, whereBelow}
+use Rattle.entries.specs.Layout.{latitude, stepOf}
+use Rattle.entries.specs.Entries.{rowsOf}
+use Rattle.reading.specs.Rows.{lastNotAbove}
+use Rattle.tables.specs.Figures.{centralMeridian, firstLatitude, y0Of, hAt, aAt, bAt, pAt, dAt}
+use Rattle.extent.specs.Extent.{sizeKnown, xPrime, eastingKnown, northingKnown, reducedKnown}
+use Rattle.inverse.specs.declared.Geographic.{Geographic}
+
+-- The answer: latitude and west longitude, in 0.001″. "A refused conversion carries zeros."
+abbrev pub geographic : ℕ → ℤ → ℤ → Geographic
+geographic number latitude longitude = record { number = number; latitude = latitude; longitude = longitude }
+
+abbrev pub noGeographic : ℕ → Geographic
+noGeographic number = geographic number (pos 0) (pos 0)
+
+-- "P is read at y, d at |x′|. Reduced northing = y − nearest hundredth of (P(x′/10,000)² + d)"
+unfoldable pub reducedNorthing : List ℕ → ℕ → ℤ → ℤ
+reducedNorthing s x y = y -ℤ reduction (pAt s (natAbs y)) x (dAt s x)
+
+-- "The row is the last with y0 not above it"
+unfoldable pub rowOf : List ℕ → ℤ → ℕ
+rowOf s reduced = lastNotAbove (y0Of s) (rowsOf s latitude) reduced
+
+-- "seconds = 60(reduced − y0)/(y0 next − y0), to 0.001, and 0 at the last row."
+unfoldable pub secondsPast : List ℕ → ℤ → ℕ → ℕ
+secondsPast s reduced row =
+    whereBelow (row + 1) (rowsOf s latitude)
+    (seconds (stepOf latitude) (natAbs (reduced -ℤ y0Of s row)) (natAbs (y0Of s (row + 1) -ℤ y0Of s row)))
+    0
+
+-- The latitude's distance from row 0: the row's, and the seconds. "If that comes to 60.000 the latitude is the next minute": 60.000 past a row is the next row
+-- itself, at which nothing is left to read between rows.
+unfoldable pub distanceOf : List ℕ → ℤ → ℕ
+distanceOf s reduced = rowOf s reduced * stepOf latitude + secondsPast s reduced (rowOf s reduced)
+
+-- "Read H and a there. Approximate L = |x′|/H to a whole second", here in 0.001″. t is the latitude's distance from row 0.
+unfoldable pub approximateOf : List ℕ → ℕ → ℕ → ℕ
+approximateOf s x t = approximateL x (hAt s t) * 1_000
+
+-- "b is read at it. The size of L is (|x′| − a·b)/H to 0.001"
+unfoldable pub sizeOf : List ℕ → ℕ → ℕ → ℤ
+sizeOf s x t = sizeOfL x (aAt s t) (bAt s (approximateOf s x t)) (hAt s t)
+
+-- "with the sign of x′. Longitude = central meridian − L."
+unfoldable pub longitudeOf : List ℕ → ℤ → ℕ → ℤ
+longitudeOf s xp t = centralMeridian s -ℤ withSign xp (sizeOf s (natAbs xp) t)
+
+-- The point on the earth.
+unfoldable pub geographicAt : List ℕ → ℤ → ℕ → Geographic
+geographicAt s xp t = geographic 0 (firstLatitude s +ℤ pos t) (longitudeOf s xp t)
+
+-- "inverse 12, 13, 14, 11", on a sheet that passes, in three parts of which each goes on to the one above it. From the latitude on: 11, where "the size of L (.. approximate or
+-- final)" is "above the last kind 3 row".
+unfoldable pub fromDistance : List ℕ → ℤ → ℕ → Geographic
+fromDistance s xp t =
+    need (sizeKnown s (pos (approximateOf s (natAbs xp) t))) (noGeographic 11)
+    (need (sizeKnown s (sizeOf s (natAbs xp) t)) (noGeographic 11)
+    (geographicAt s xp t))
+
+-- From the reduced northing on: 14, then the latitude.
+unfoldable pub fromReduced : List ℕ → ℤ → ℤ → Geographic
+fromReduced s xp reduced = need (reducedKnown s reduced) (noGeographic 14) (fromDistance s xp (distanceOf s reduced))
+
+-- From x and y on: 12, 13, then the reduced northing.
+unfoldable pub inverseOf : List ℕ → ℤ → ℤ → Geographic
+inverseOf s x y =
+    need (eastingKnown s (xPrime s x)) (noGeographic 12)
+    (need (northingKnown s y) (noGeographic 13)
+    (fromReduced s (xPrime s x) (reducedNorthing s (natAbs (xPrime s x)) y)))

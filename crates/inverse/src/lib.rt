@@ -1,0 +1,160 @@
+// Plane to geographic, on a sheet known to pass, with its places in hand: 12, 13, 14, 11, or latitude and longitude.
+use entries::Places;
+ghost use mathlib.Core.Path.{_≡_};
+ghost use mathlib.Core.Bool.{true};
+ghost use Prim.Native.Nat.{_-_, _*_, _^_, _<_, _≤_};
+ghost use lib.IntN.{pos, natAbs, _-ℤ_};
+ghost use lib.Signed.{leZ};
+ghost use Rattle.figures.specs.Ranges.{mostGap};
+ghost use Rattle.entries.specs.Layout.{latitude, easting, stepOf};
+ghost use Rattle.entries.specs.Entries.{rowsOf, placesOf};
+ghost use Rattle.bodies.specs.Check.{checkOf};
+ghost use Rattle.extent.specs.Extent.{sizeKnown, eastingKnown, northingKnown, reducedKnown};
+ghost use Rattle.inverse.specs.Inverse.{reducedNorthing, rowOf, secondsPast, distanceOf, approximateOf, sizeOf, geographicAt, fromDistance, fromReduced, inverseOf};
+
+// A point on the earth: latitude and west longitude in 0.001″. A refusal has its number and zeros.
+pub struct Geographic {
+    pub number: u32,
+    pub latitude: i32,
+    pub longitude: i32,
+}
+
+// The reduced northing, in 0.01 ft, at the size x of x′ and y.
+pub fn reduced_northing(s: &[u8], p: Places, x: u64, y: i32) -> i64
+    requires { ⌜ (checkOf (now s) .number ≡ 0) × (p ≡ placesOf (now s)) × (x ≤ (rowsOf (now s) easting - 1) * stepOf easting) × (northingKnown (now s) y ≡ true) ⌝ }
+    ensures { λ r. ⌜ (r ≡ reducedNorthing (now (s .entry)) x y) × (natAbs r < 2 ^ 62) ⌝ }
+{
+    let north = y as i64;
+    let big_p = tables::p_at(s, p, north as u64);
+    let d = tables::d_at(s, p, x);
+    north - figures::reduction(big_p, x, d)
+}
+
+// How far high stands above low, both northings in 0.01 ft.
+fn above(low: i64, high: i64) -> u64
+    requires { ⌜ (natAbs low ≤ mostGap) × (natAbs high ≤ mostGap) × (leZ low high ≡ true) ⌝ }
+    ensures { λ r. ⌜ r ≡ natAbs (high -ℤ low) ⌝ }
+{
+    (high - low) as u64
+}
+
+// The seconds of the reduced northing past its row, in 0.001″.
+fn seconds_past(s: &[u8], p: Places, reduced: i64, row: usize) -> u64
+    requires { ⌜ (checkOf (now s) .number ≡ 0) × (p ≡ placesOf (now s)) × (reducedKnown (now s) reduced ≡ true) × (row ≡ rowOf (now s) reduced) ⌝ }
+    ensures { λ r. ⌜ r ≡ secondsPast (now (s .entry)) reduced row ⌝ }
+{
+    if row + 1 < p.latitude.rows {
+        let y0 = tables::y0_of(s, p, row);
+        let next = tables::y0_of(s, p, row + 1);
+        figures::seconds(
+            entries::step_of(entries::LATITUDE),
+            above(y0, reduced),
+            above(y0, next),
+        )
+    } else {
+        0
+    }
+}
+
+// The distance of the reduced northing's latitude from row 0, in 0.001″.
+fn distance_of(s: &[u8], p: Places, reduced: i64) -> u64
+    requires { ⌜ (checkOf (now s) .number ≡ 0) × (p ≡ placesOf (now s)) × (reducedKnown (now s) reduced ≡ true) × (natAbs reduced < 2 ^ 62) ⌝ }
+    ensures { λ r. ⌜ (r ≡ distanceOf (now (s .entry)) reduced) × (r ≤ (rowsOf (now (s .entry)) latitude - 1) * stepOf latitude) ⌝ }
+{
+    let row = tables::row_of(s, p.latitude, reduced);
+    (row as u64) * entries::step_of(entries::LATITUDE) + seconds_past(s, p, reduced, row)
+}
+
+// Approximate L, in 0.001″, at the size x of x′ and the latitude's distance t from row 0.
+fn approximate_of(s: &[u8], p: Places, x: u64, t: u64) -> u64
+    requires { ⌜ (checkOf (now s) .number ≡ 0) × (p ≡ placesOf (now s)) × (x ≤ (rowsOf (now s) easting - 1) * stepOf easting) × (t ≤ (rowsOf (now s) latitude - 1) * stepOf latitude) ⌝ }
+    ensures { λ r. ⌜ (r ≡ approximateOf (now (s .entry)) x t) × (r ≤ 30_000_000) ⌝ }
+{
+    figures::approximate_l(x, tables::h_at(s, p, t)) * 1_000
+}
+
+// The size of L there, in 0.001″.
+fn size_of(s: &[u8], p: Places, x: u64, t: u64, approximate: u64) -> i64
+    requires { ⌜ (checkOf (now s) .number ≡ 0) × (p ≡ placesOf (now s)) × (x ≤ (rowsOf (now s) easting - 1) * stepOf easting) × (t ≤ (rowsOf (now s) latitude - 1) * stepOf latitude) × (approximate ≡ approximateOf (now s) x t) × (sizeKnown (now s) (pos approximate) ≡ true) ⌝ }
+    ensures { λ r. ⌜ r ≡ sizeOf (now (s .entry)) x t ⌝ }
+{
+    let h = tables::h_at(s, p, t);
+    let a = tables::a_at(s, p, t);
+    let b = tables::b_at(s, p, approximate);
+    figures::size_of_l(x, a, b, h) as i64
+}
+
+// The point on the earth, of x′, the latitude's distance t from row 0 and the size of L, which is within its table.
+fn geographic_at(s: &[u8], p: Places, xp: i64, t: u64, size: i64) -> Geographic
+    requires { ⌜ (checkOf (now s) .number ≡ 0) × (p ≡ placesOf (now s)) × (t ≤ (rowsOf (now s) latitude - 1) * stepOf latitude) × (size ≡ sizeOf (now s) (natAbs xp) t) × (sizeKnown (now s) size ≡ true) ⌝ }
+    ensures { λ r. ⌜ r ≡ geographicAt (now (s .entry)) xp t ⌝ }
+{
+    Geographic {
+        number: 0,
+        latitude: (tables::first_latitude(s, p) + (t as i64)) as i32,
+        longitude: (tables::central_meridian(s, p) - figures::with_sign(xp, size)) as i32,
+    }
+}
+
+// 11, or the point on the earth, from x′ and the latitude's distance t from row 0.
+fn from_distance(s: &[u8], p: Places, xp: i64, t: u64) -> Geographic
+    requires { ⌜ (checkOf (now s) .number ≡ 0) × (p ≡ placesOf (now s)) × (eastingKnown (now s) xp ≡ true) × (t ≤ (rowsOf (now s) latitude - 1) * stepOf latitude) ⌝ }
+    ensures { λ r. ⌜ r ≡ fromDistance (now (s .entry)) xp t ⌝ }
+{
+    let x = figures::size(xp);
+    let approximate = approximate_of(s, p, x, t);
+    if !extent::size_known(s, p, approximate as i64) {
+        return Geographic {
+            number: 11,
+            latitude: 0,
+            longitude: 0,
+        };
+    }
+    let size = size_of(s, p, x, t, approximate);
+    if !extent::size_known(s, p, size) {
+        return Geographic {
+            number: 11,
+            latitude: 0,
+            longitude: 0,
+        };
+    }
+    geographic_at(s, p, xp, t, size)
+}
+
+// 14, 11, or the point on the earth, from x′ and the reduced northing.
+fn from_reduced(s: &[u8], p: Places, xp: i64, reduced: i64) -> Geographic
+    requires { ⌜ (checkOf (now s) .number ≡ 0) × (p ≡ placesOf (now s)) × (eastingKnown (now s) xp ≡ true) × (natAbs reduced < 2 ^ 62) ⌝ }
+    ensures { λ r. ⌜ r ≡ fromReduced (now (s .entry)) xp reduced ⌝ }
+{
+    if !extent::reduced_known(s, p, reduced) {
+        return Geographic {
+            number: 14,
+            latitude: 0,
+            longitude: 0,
+        };
+    }
+    from_distance(s, p, xp, distance_of(s, p, reduced))
+}
+
+// Plane to geographic: 12, 13, 14, 11, or latitude and longitude.
+pub fn inverse(s: &[u8], p: Places, x: i32, y: i32) -> Geographic
+    requires { ⌜ (checkOf (now s) .number ≡ 0) × (p ≡ placesOf (now s)) ⌝ }
+    ensures { λ r. ⌜ r ≡ inverseOf (now (s .entry)) x y ⌝ }
+{
+    let xp = extent::x_prime(s, p, x);
+    if !extent::easting_known(s, p, xp) {
+        return Geographic {
+            number: 12,
+            latitude: 0,
+            longitude: 0,
+        };
+    }
+    if !extent::northing_known(s, p, y) {
+        return Geographic {
+            number: 13,
+            latitude: 0,
+            longitude: 0,
+        };
+    }
+    from_reduced(s, p, xp, reduced_northing(s, p, figures::size(xp), y))
+}
