@@ -12,7 +12,7 @@ use lib.ListN.{length, set, length-append}
 use lib.Seq.{sets, set-comm}
 use Rattle.words.proofs.Refusals.{below, beyond}
 use Rattle.decimal.proofs.DigitsRead.{powers}
-use Rattle.decimal.specs.Writing.{placesFrom, places, spelled, sizeText, numberText}
+use Rattle.decimal.specs.Writing.{placesFrom, places, spelled, sizeText, numberText, Wrote}
 
 -- ---- a run of stores after another is the run of both
 pub sets-after : {A : Type 0} (l : List A) (i j : ℕ) (a b : List A) → j ≡ i + length a → sets (sets l i a) j b ≡ sets l i (a ++ b)
@@ -93,17 +93,22 @@ pub written-size : (old new : List ℕ) (at v k : ℕ) → k ≡ places v → ne
 unfolding sizeText
 written-size old new at v k e h = rw (← e) h
 
+-- ---- a text after another
+pub then : {old mid new : List ℕ} {at i r : ℕ} {a b : List ℕ} → Wrote old mid at i a → Wrote mid new i r b → Wrote old new at r (a ++ b)
+then {old} {mid} {new} {at} {i} {r} {a} {b} p q =
+    record {
+      place = q .place ∙ rw (p .place, length-append a b) (omega arith);
+      bytes = q .bytes ∙ rw (p .bytes) (sets-after old at i a b (p .place))
+    }
+
 -- ---- a signed number, after its minus or without one
 module _ (old new : List ℕ) (at r size : ℕ) where
-  pub after-minus : (v : ℤ) (mid : List ℕ) (next : ℕ) → ltZ v (pos 0) ≡ true → size ≡ natAbs v → next ≡ at + 1 → mid ≡ sets old at (45 ∷ [])
-      → r ≡ next + length (sizeText size) → new ≡ sets mid next (sizeText size) → (r ≡ at + length (numberText v)) × (new ≡ sets old at (numberText v))
+  pub after-minus : (v : ℤ) (mid : List ℕ) (next : ℕ) → ltZ v (pos 0) ≡ true → size ≡ natAbs v → Wrote old mid at next (45 ∷ []) → Wrote mid new next r (sizeText size) → Wrote old new at r (numberText v)
   unfolding numberText
-  after-minus (pos n) mid next t e n′ m l w = absurd (omega (arith, ltb-true n 0 t))
-  after-minus (negsuc n) mid next t e n′ m l w =
-      (omega (arith, rw e at l, n′), w ∙ rw (m, e, n′) (sets-after old at (at + 1) (45 ∷ []) (sizeText (suc n)) refl))
+  after-minus (pos n) mid next t e p q = absurd (omega (arith, ltb-true n 0 t))
+  after-minus (negsuc n) mid next t e p q = rw e at (then p q)
 
-  pub without-minus : (v : ℤ) → ltZ v (pos 0) ≡ false → size ≡ natAbs v → r ≡ at + length (sizeText size) → new ≡ sets old at (sizeText size)
-      → (r ≡ at + length (numberText v)) × (new ≡ sets old at (numberText v))
+  pub without-minus : (v : ℤ) → ltZ v (pos 0) ≡ false → size ≡ natAbs v → Wrote old new at r (sizeText size) → Wrote old new at r (numberText v)
   unfolding numberText
-  without-minus (pos n) t e l w = (rw e at l, rw e at w)
-  without-minus (negsuc n) t e l w = let z : _≡_ {A = ℕ} 0 1 = cc in absurd (omega arith)
+  without-minus (pos n) t e p = rw e at p
+  without-minus (negsuc n) t e p = let z : _≡_ {A = ℕ} 0 1 = cc in absurd (omega arith)

@@ -1,7 +1,10 @@
 -- A number written: its decimal digits without zeros before them, after a minus where it is below zero.
 use Prim.Native.Nat.{ℕ, zero, suc, _+_, _*_, _/_, _%_}
 use mathlib.Core.List.{List, [], _∷_, _++_}
+use mathlib.Core.Path.{_≡_}
 use lib.IntN.{ℤ, pos, negsuc}
+use lib.ListN.{length}
+use lib.Seq.{sets}
 use Rattle.words.specs.Ladder.{whereBelow}
 
 -- How many digits v has, where it has k or more and `limit` is the least number with more than k; `left` bounds the search.
@@ -26,3 +29,8 @@ sizeText v = spelled (places v) v
 unfoldable pub numberText : ℤ → List ℕ
 numberText (pos n) = sizeText n
 numberText (negsuc n) = 45 ∷ sizeText (suc n)
+
+-- What writing a text leaves: the memory with the text from `at` on, byte after byte, all else as it was, and the place after it.
+pub record Wrote (old new : List ℕ) (at next : ℕ) (text : List ℕ) : Type 0 where
+  pub place : next ≡ at + length text
+  pub bytes : new ≡ sets old at text

@@ -5,7 +5,7 @@ ghost use Prim.Native.Nat.{_+_, _-_, _^_, _≤_, _<_};
 ghost use lib.ListN.{length, drop, getD};
 ghost use lib.Seq.{sets};
 ghost use Rattle.decimal.specs.Reading.{digitOf, minusOf, digitsOf, signed, numberOf};
-ghost use Rattle.decimal.specs.Writing.{places, spelled, sizeText, numberText};
+ghost use Rattle.decimal.specs.Writing.{places, spelled, sizeText, numberText, Wrote};
 
 // Digits that were read: how many, and their value. None have count 0.
 pub struct Digits {
@@ -153,7 +153,7 @@ fn spell(out: &mut [u8], at: usize, v: u64, k: usize)
 // A byte, written at `at`; the place after it.
 pub fn put_byte(out: &mut [u8], at: usize, b: u8) -> usize
     requires { ⌜ at < length (now out) ⌝ }
-    ensures { λ r. ⌜ (r ≡ at + 1) × (now (out .exit) ≡ sets (now (out .entry)) at (b ∷ [])) ⌝ }
+    ensures { λ r. ⌜ (r ≡ at + 1) × Wrote (now (out .entry)) (now (out .exit)) at r (b ∷ []) ⌝ }
 {
     out[at] = b;
     at + 1
@@ -162,7 +162,7 @@ pub fn put_byte(out: &mut [u8], at: usize, b: u8) -> usize
 // A size, written from `at` on; the place after it.
 pub fn put_size(out: &mut [u8], at: usize, v: u64) -> usize
     requires { ⌜ at + 20 ≤ length (now out) ⌝ }
-    ensures { λ r. ⌜ (r ≡ at + length (sizeText v)) × (r ≤ at + 20) × (now (out .exit) ≡ sets (now (out .entry)) at (sizeText v)) ⌝ }
+    ensures { λ r. ⌜ (r ≤ at + 20) × Wrote (now (out .entry)) (now (out .exit)) at r (sizeText v) ⌝ }
 {
     let k = places_of(v);
     spell(out, at, v, k);
@@ -172,7 +172,7 @@ pub fn put_size(out: &mut [u8], at: usize, v: u64) -> usize
 // A signed number, written from `at` on; the place after it.
 pub fn put_number(out: &mut [u8], at: usize, v: i32) -> usize
     requires { ⌜ at + 21 ≤ length (now out) ⌝ }
-    ensures { λ r. ⌜ (r ≡ at + length (numberText v)) × (r ≤ at + 21) × (now (out .exit) ≡ sets (now (out .entry)) at (numberText v)) ⌝ }
+    ensures { λ r. ⌜ (r ≤ at + 21) × Wrote (now (out .entry)) (now (out .exit)) at r (numberText v) ⌝ }
 {
     let size = figures::size(v as i64);
     if v < 0 {

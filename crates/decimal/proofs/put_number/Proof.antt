@@ -38,8 +38,8 @@ returns c =
     let put = c .before .before .put-size .ensures in
     let byte = c .before .before .before .before .before .before .put-byte .ensures in
     let done =
-    after-minus (now (start .args .out)) _ (start .args .at) _ _ (start .args .v) _ _ (rw (value start) at (taken .if1 .taken)) (taken .before .size .ensures ∙ unsigned (wide start)) (byte .0) (byte .1) (put .0) (put .2) in
-    (done .0, omega (arith, put .1, byte .0), done .1)
+    after-minus (now (start .args .out)) _ (start .args .at) _ _ (start .args .v) _ _ (rw (value start) at (taken .if1 .taken)) (taken .before .size .ensures ∙ unsigned (wide start)) (byte .1) (put .1) in
+    (omega (arith, put .0, byte .0), done)
 
 put-size-requires-2 : tie.Need-put-size-requires-2
 put-size-requires-2 c κs = search needs
@@ -52,8 +52,8 @@ returns-2 c =
     let left = c .before .before .before .before in
     let start = left .before .before .before in
     let put = c .before .before .put-size2 .ensures in
-    let done = without-minus (now (start .args .out)) _ (start .args .at) _ _ (start .args .v) (rw (value start) at (left .if1 .left)) (left .before .size .ensures ∙ unsigned (wide start)) (put .0) (put .2) in
-    (done .0, omega (arith, put .1), done .1)
+    let done = without-minus (now (start .args .out)) _ (start .args .at) _ _ (start .args .v) (rw (value start) at (left .if1 .left)) (left .before .size .ensures ∙ unsigned (wide start)) (put .1) in
+    (omega (arith, put .0), done)
 
 pub put-number-spec : {M : Type 1} → statement M
 put-number-spec =

@@ -22,7 +22,7 @@ returns c =
     let start = c .before .before .before .before .before .before in
     let k = c .before .before .before .before .places-of .ensures in
     let n = length-size (start .args .v) _ (k .0) in
-    (omega (arith, n), omega (arith, k .1), written-size _ _ _ _ _ (k .0) (c .before .before .spell .ensures))
+    (omega (arith, k .1), record { place = omega (arith, n); bytes = written-size _ _ _ _ _ (k .0) (c .before .before .spell .ensures) })
 
 pub put-size-spec : {M : Type 1} → statement M
 put-size-spec =

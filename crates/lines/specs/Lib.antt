@@ -1,0 +1,2 @@
+-- The lines of the points program.
+pub mod Lines

@@ -1,0 +1,101 @@
+-- The lines of the "Points program": what one asks, and what is printed for it. A line is its bytes without the line feed; s is the sheet.
+use Prim.Native.Nat.{ℕ, _+_, _≤_}
+use mathlib.Core.Bool.{Bool, _||_}
+use mathlib.Core.List.{List, [], _∷_, _++_}
+use lib.Dec.{leb, ltb, eqb}
+use lib.IntN.{ℤ, pos}
+use lib.ListN.{length, drop, getD}
+use lib.Seq.{sets}
+use Rattle.words.specs.Ladder.{need, whereIs}
+use Rattle.contents.specs.declared.Verdict.{Verdict}
+use Rattle.forward.specs.declared.Plane.{Plane}
+use Rattle.inverse.specs.declared.Geographic.{Geographic}
+use Rattle.grid.specs.declared.Grid.{Grid}
+use Rattle.convert.specs.Conversions.{geographicToPlane, planeToGeographic, convergenceAndScale}
+use Rattle.decimal.specs.declared.Number.{Number}
+use Rattle.decimal.specs.Reading.{numberOf}
+use Rattle.decimal.specs.Writing.{sizeText, numberText}
+use Rattle.lines.specs.declared.Line.{Line}
+use Rattle.lines.specs.declared.Written.{Written}
+
+-- ---- what a line asks
+-- "`G latitude longitude`, `P x y` or `S x y`"
+unfoldable pub isForm : ℕ → Bool
+isForm b = eqb b 71 || eqb b 80 || eqb b 83
+
+-- The first number stands behind the letter and a blank, the second behind the first and a blank.
+unfoldable pub firstOf : List ℕ → Number
+firstOf line = numberOf (drop 2 line)
+
+unfoldable pub secondOf : List ℕ → Number
+secondOf line = numberOf (drop (3 + firstOf line .length) line)
+
+abbrev pub asks : ℕ → ℤ → ℤ → Line
+asks form first second = record { form = form; first = first; second = second }
+
+abbrev pub unknown : Line
+unknown = asks 0 (pos 0) (pos 0)
+
+-- A letter, "one blank between", a number, a blank, a number, and the line's end; else it is "a program line of no known form".
+unfoldable pub lineOf : List ℕ → Line
+lineOf line =
+    need (isForm (getD line 0 0)) unknown
+    (need (eqb (getD line 1 0) 32) unknown
+    (need (ltb 0 (firstOf line .length)) unknown
+    (need (eqb (getD line (2 + firstOf line .length) 0) 32) unknown
+    (need (ltb 0 (secondOf line .length)) unknown
+    (need (eqb (3 + firstOf line .length + secondOf line .length) (length line)) unknown
+    (asks (getD line 0 0) (firstOf line .value) (secondOf line .value)))))))
+
+-- ---- what is printed
+-- A text, and the byte after it: 32 is a blank, 10 a line feed.
+abbrev pub ended : List ℕ → ℕ → List ℕ
+ended text b = text ++ b ∷ []
+
+-- "number, with x y, or latitude longitude, or Δα in tenths and k", and a line feed.
+unfoldable pub answerLine : ℕ → ℤ → ℤ → List ℕ
+answerLine number a b = ended (sizeText number) 32 ++ (ended (numberText a) 32 ++ ended (numberText b) 10)
+
+-- 18, and a line feed.
+unfoldable pub unknownLine : List ℕ
+unknownLine = ended (sizeText 18) 10
+
+-- "It prints the check's answer": number, kind, row, and a line feed.
+unfoldable pub verdictLine : ℕ → ℕ → ℕ → List ℕ
+verdictLine number kind row = ended (sizeText number) 32 ++ (ended (sizeText kind) 32 ++ ended (sizeText row) 10)
+
+abbrev pub planeLine : Plane → List ℕ
+planeLine r = answerLine (r .number) (r .x) (r .y)
+
+abbrev pub geographicLine : Geographic → List ℕ
+geographicLine r = answerLine (r .number) (r .latitude) (r .longitude)
+
+abbrev pub gridLine : Grid → List ℕ
+gridLine r = answerLine (r .number) (r .convergence) (r .scale)
+
+-- "then one line per line": G is geographic to plane, P plane to geographic, S convergence and scale.
+unfoldable pub answerTo : List ℕ → Line → List ℕ
+answerTo s l =
+    whereIs (l .form) 71 (planeLine (geographicToPlane s (l .first) (l .second)))
+    (whereIs (l .form) 80 (geographicLine (planeToGeographic s (l .first) (l .second)))
+    (whereIs (l .form) 83 (gridLine (convergenceAndScale s (l .first) (l .second)))
+    unknownLine))
+
+unfoldable pub answerText : List ℕ → List ℕ → List ℕ
+answerText s line = answerTo s (lineOf line)
+
+-- ---- the line written to lent memory
+-- Room for any line: three numbers of at most 21 bytes, with a byte after each.
+abbrev pub mostBytes : ℕ
+mostBytes = 66
+
+abbrev pub written : ℕ → ℕ → Written
+written number length = record { number = number; length = length }
+
+-- "17 [..] for too little room": less than for the longest line; else the line's length.
+unfoldable pub writtenOf : List ℕ → List ℕ → List ℕ → Written
+writtenOf s line old = need (leb mostBytes (length old)) (written 17 0) (written 0 (length (answerText s line)))
+
+-- The memory after it: the line at its front, the rest as it was; "a refusal writes nothing".
+unfoldable pub afterLine : List ℕ → List ℕ → List ℕ → List ℕ
+afterLine s line old = need (leb mostBytes (length old)) old (sets old 0 (answerText s line))

@@ -1,0 +1,194 @@
+// One line of the points program: what it asks, and its answer as bytes.
+use entries::Places;
+ghost use mathlib.Core.Path.{_≡_};
+ghost use mathlib.Core.Bool.{true};
+ghost use Prim.Native.Nat.{_+_, _≤_, _<_};
+ghost use lib.ListN.{length};
+ghost use lib.Seq.{sets};
+ghost use Rattle.entries.specs.Entries.{placesOf};
+ghost use Rattle.bodies.specs.Check.{checkOf};
+ghost use Rattle.decimal.specs.Writing.{sizeText, numberText, Wrote};
+ghost use Rattle.lines.specs.Lines.{isForm, lineOf, ended, answerLine, verdictLine, unknownLine, answerText, mostBytes, writtenOf, afterLine};
+
+// What a line asks: the form's letter, and its two numbers. A line of no known form has form 0 and zeros.
+pub struct Line {
+    pub form: u8,
+    pub first: i32,
+    pub second: i32,
+}
+
+// What was written: 0 and how many bytes, or 17 and 0.
+pub struct Written {
+    pub number: u32,
+    pub length: usize,
+}
+
+const BLANK: u8 = 32;
+
+const LINE_FEED: u8 = 10;
+
+const FORWARD: u8 = 71; // G
+
+const INVERSE: u8 = 80; // P
+
+const SCALE: u8 = 83; // S
+
+// Room for any line that is written: three numbers of at most 21 bytes, with a byte after each.
+pub const MOST_BYTES: usize = 66;
+
+// ---- what a line asks
+
+// Whether a byte is a form's letter.
+fn is_form(b: u8) -> bool
+    ensures { λ r. ⌜ r ≡ isForm b ⌝ }
+{
+    (b == FORWARD) | (b == INVERSE) | (b == SCALE)
+}
+
+// What the line asks.
+pub fn line_of(line: &[u8]) -> Line
+    ensures { λ r. ⌜ r ≡ lineOf (now (line .entry)) ⌝ }
+{
+    let none = Line {
+        form: 0,
+        first: 0,
+        second: 0,
+    };
+    let form = decimal::byte_at(line, 0);
+    if !is_form(form) {
+        return none;
+    }
+    if decimal::byte_at(line, 1) != BLANK {
+        return none;
+    }
+    let first = decimal::number_at(line, 2);
+    let length = first.length;
+    if length == 0 {
+        return none;
+    }
+    if decimal::byte_at(line, 2 + length) != BLANK {
+        return none;
+    }
+    let second = decimal::number_at(line, 3 + length);
+    let rest = second.length;
+    if rest == 0 {
+        return none;
+    }
+    if 3 + length + rest != line.len() {
+        return none;
+    }
+    Line {
+        form,
+        first: first.value,
+        second: second.value,
+    }
+}
+
+// ---- what is printed
+
+// A number and the byte after it, from `at` on; the place after both.
+fn put_size_and(out: &mut [u8], at: usize, v: u64, end: u8) -> usize
+    requires { ⌜ at + 22 ≤ length (now out) ⌝ }
+    ensures { λ r. ⌜ (r ≤ at + 22) × Wrote (now (out .entry)) (now (out .exit)) at r (ended (sizeText v) end) ⌝ }
+{
+    let next = decimal::put_size(out, at, v);
+    decimal::put_byte(out, next, end)
+}
+
+// A signed number and the byte after it, from `at` on; the place after both.
+fn put_number_and(out: &mut [u8], at: usize, v: i32, end: u8) -> usize
+    requires { ⌜ at + 22 ≤ length (now out) ⌝ }
+    ensures { λ r. ⌜ (r ≤ at + 22) × Wrote (now (out .entry)) (now (out .exit)) at r (ended (numberText v) end) ⌝ }
+{
+    let next = decimal::put_number(out, at, v);
+    decimal::put_byte(out, next, end)
+}
+
+// A conversion's answer, from `at` on; the place after it.
+fn put_answer(out: &mut [u8], at: usize, number: u32, a: i32, b: i32) -> usize
+    requires { ⌜ at + mostBytes ≤ length (now out) ⌝ }
+    ensures { λ r. ⌜ (r ≤ at + mostBytes) × Wrote (now (out .entry)) (now (out .exit)) at r (answerLine number a b) ⌝ }
+{
+    let i = put_size_and(out, at, number as u64, BLANK);
+    let j = put_number_and(out, i, a, BLANK);
+    put_number_and(out, j, b, LINE_FEED)
+}
+
+// The check's answer, from `at` on; the place after it.
+pub fn put_verdict(out: &mut [u8], at: usize, number: u32, kind: usize, row: usize) -> usize
+    requires { ⌜ at + mostBytes ≤ length (now out) ⌝ }
+    ensures { λ r. ⌜ (r ≤ at + mostBytes) × Wrote (now (out .entry)) (now (out .exit)) at r (verdictLine number kind row) ⌝ }
+{
+    let i = put_size_and(out, at, number as u64, BLANK);
+    let j = put_size_and(out, i, kind as u64, BLANK);
+    put_size_and(out, j, row as u64, LINE_FEED)
+}
+
+// 18, from `at` on; the place after it.
+pub fn put_unknown(out: &mut [u8], at: usize) -> usize
+    requires { ⌜ at + mostBytes ≤ length (now out) ⌝ }
+    ensures { λ r. ⌜ (r ≤ at + mostBytes) × Wrote (now (out .entry)) (now (out .exit)) at r unknownLine ⌝ }
+{
+    put_size_and(out, at, 18, LINE_FEED)
+}
+
+// The line's answer on a sheet known to pass, with its places, from `at` on; the place after it.
+pub fn answer(s: &[u8], p: Places, line: &[u8], out: &mut [u8], at: usize) -> usize
+    requires { ⌜ (checkOf (now s) .number ≡ 0) × (p ≡ placesOf (now s)) × (at + mostBytes ≤ length (now out)) ⌝ }
+    ensures { λ r. ⌜ (r ≤ at + mostBytes) × Wrote (now (out .entry)) (now (out .exit)) at r (answerText (now (s .entry)) (now (line .entry))) ⌝ }
+{
+    let l = line_of(line);
+    let form = l.form;
+    if form == FORWARD {
+        let r = forward::forward(s, p, l.first, l.second);
+        return put_answer(out, at, r.number, r.x, r.y);
+    }
+    if form == INVERSE {
+        let r = inverse::inverse(s, p, l.first, l.second);
+        return put_answer(out, at, r.number, r.latitude, r.longitude);
+    }
+    if form == SCALE {
+        let r = grid::convergence(s, p, l.first, l.second);
+        return put_answer(out, at, r.number, r.convergence, r.scale);
+    }
+    put_unknown(out, at)
+}
+
+// The line's answer on any sheet, checked first, from the front of `out` on; its length.
+fn checked_answer(sheet: &[u8], line: &[u8], out: &mut [u8]) -> usize
+    requires { ⌜ mostBytes ≤ length (now out) ⌝ }
+    ensures { λ r. ⌜ Wrote (now (out .entry)) (now (out .exit)) 0 r (answerText (now (sheet .entry)) (now (line .entry))) ⌝ }
+{
+    let l = line_of(line);
+    let form = l.form;
+    if form == FORWARD {
+        let r = convert::geographic_to_plane(sheet, l.first, l.second);
+        return put_answer(out, 0, r.number, r.x, r.y);
+    }
+    if form == INVERSE {
+        let r = convert::plane_to_geographic(sheet, l.first, l.second);
+        return put_answer(out, 0, r.number, r.latitude, r.longitude);
+    }
+    if form == SCALE {
+        let r = convert::convergence_and_scale(sheet, l.first, l.second);
+        return put_answer(out, 0, r.number, r.convergence, r.scale);
+    }
+    put_unknown(out, 0)
+}
+
+// The line's answer on any sheet, checked first, from the front of `out` on; 17 where `out` has less room than any line may need.
+pub fn answer_line(sheet: &[u8], line: &[u8], out: &mut [u8]) -> Written
+    ensures answer { λ r. ⌜ r ≡ writtenOf (now (sheet .entry)) (now (line .entry)) (now (out .entry)) ⌝ }
+    ensures memory { λ _. ⌜ now (out .exit) ≡ afterLine (now (sheet .entry)) (now (line .entry)) (now (out .entry)) ⌝ }
+{
+    if out.len() < MOST_BYTES {
+        return Written {
+            number: 17,
+            length: 0,
+        };
+    }
+    Written {
+        number: 0,
+        length: checked_answer(sheet, line, out),
+    }
+}
