@@ -1,0 +1,62 @@
+-- `points::read_part` meets its contract. Assumes nothing.
+use mathlib.Core.Path.{_≡_}
+use native.Mathlib.Omega.{arith}
+use denote.Ref.{now}
+use mir.Syntax.{w64}
+use mir.Val.{toZ, ofZ}
+use Rattle.points.proofs.Moves.{moved-part, moved-size}
+use borrow.Author.Needs.{needs}
+use Rattle.points.proofs.read_part.Statement.{statement}
+use Rattle.points.proofs.read_part.Tie as tie
+
+value : (c : tie.After-read) → toZ w64 (ofZ w64 (c .read .result)) ≡ c .read .result
+value c = search needs
+
+sub-read : tie.Need-sub-read
+sub-read c = search needs
+
+part-read-start : tie.Need-part-read-start
+part-read-start c = search needs
+
+part-read-end : tie.Need-part-read-end
+part-read-end c = search needs
+
+read-requires : tie.Need-read-requires
+read-requires c κs = search needs
+
+same-length : tie.Need-same-length
+same-length c = search needs
+
+returns : tie.Need-returns
+returns c = search needs
+
+cast-t7 : tie.Need-cast-t7
+cast-t7 c =
+    let e = value (c .before .before .before) in
+    let a = c .before .before .before .before .before .before .args in
+    let most = moved-part (now (a .buf)) (a .from) (c .before .before .before .read .result) (c .before .before .before .read .ensures) (rw e at (c .if1 .left)) in
+    (rw e (moved-size (c .before .before .before .read .result) (rw e at (c .if1 .left))), rw e (record { fits = omega (arith, most) }))
+
+same-length-2 : tie.Need-same-length-2
+same-length-2 c = search needs
+
+returns-2 : tie.Need-returns-2
+returns-2 c =
+    let e = value (c .before .before .before) in
+    let a = c .before .before .before .before .before .before .args in
+    let most = moved-part (now (a .buf)) (a .from) (c .before .before .before .read .result) (c .before .before .before .read .ensures) (rw e at (c .if1 .left)) in
+    rw e (omega (arith, same-length-2 c, most))
+
+pub read-part-spec : {M : Type 1} → statement M
+read-part-spec =
+    tie.close
+    (tie.spec
+    sub-read
+    part-read-start
+    part-read-end
+    read-requires
+    same-length
+    returns
+    cast-t7
+    same-length-2
+    returns-2)

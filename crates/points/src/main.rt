@@ -1,0 +1,321 @@
+// The points program, a filter. Standard input: the name of the sheet's file, then a line for each point. Standard output: the check's answer and, where it is 0, an
+// answer for each line.
+use blocks::LINE_FEED;
+use entries::Places;
+use libc::STDIN_FILENO;
+use libc::STDOUT_FILENO;
+ghost use mathlib.Core.Path.{_≡_};
+ghost use Prim.Native.Nat.{_+_, _-_, _≤_, _<_};
+ghost use lib.ListN.{length};
+ghost use Rattle.entries.specs.Entries.{placesOf};
+ghost use Rattle.bodies.specs.Check.{checkOf};
+ghost use Rattle.lines.specs.Lines.{mostBytes};
+
+// The most bytes of a file's name. A line of a known form has less.
+const MOST_NAME: usize = 255;
+
+// What a read gave: whether it failed, and how many bytes, 0 at the end.
+struct Got {
+    failed: bool,
+    count: usize,
+}
+
+// Where a block of lines ends: the place behind its last line feed, and the place in the output.
+struct Rest {
+    from: usize,
+    at: usize,
+}
+
+// What is kept from block to block: the bytes of an unfinished line at the front of the input; whether these are left out, since the line is too long to be of a
+// known form; and the place in the output.
+struct State {
+    kept: usize,
+    long: bool,
+    at: usize,
+}
+
+// ---- reading
+
+// One read into buf from `from` on.
+fn read_part(fd: i32, buf: &mut [u8], from: usize) -> Got
+    requires { ⌜ from ≤ length (now buf) ⌝ }
+    ensures { λ r. ⌜ from + r .count ≤ length (now (buf .exit)) ⌝ }
+{
+    let end = buf.len();
+    let got = libc::read(fd, &mut buf[from..end]);
+    if got < 0 {
+        return Got {
+            failed: true,
+            count: 0,
+        };
+    }
+    Got {
+        failed: false,
+        count: got as usize,
+    }
+}
+
+// How many bytes a read of standard input put into the buffer from `from` on, 0 at its end.
+fn read_more(input: &mut [u8], from: usize) -> usize
+    requires { ⌜ from ≤ length (now input) ⌝ }
+    ensures { λ r. ⌜ from + r ≤ length (now (input .exit)) ⌝ }
+{
+    read_part(STDIN_FILENO, input, from).count
+}
+
+// The file's bytes in the buffer, as far as it reaches; none where a read fails.
+fn read_sheet(fd: i32, sheet: &mut [u8]) -> usize
+    ensures { λ r. ⌜ r ≤ length (now (sheet .exit)) ⌝ }
+{
+    let mut done = 0;
+    while done < sheet.len() {
+        let got = read_part(fd, sheet, done);
+        if got.failed {
+            return 0;
+        }
+        let count = got.count;
+        if count == 0 {
+            return done;
+        }
+        done += count;
+    }
+    done
+}
+
+// The named file's bytes in the buffer; none where the name is too long or has a zero byte, or the file cannot be read.
+fn load(name: &[u8], sheet: &mut [u8]) -> usize
+    ensures { λ r. ⌜ r ≤ length (now (sheet .exit)) ⌝ }
+{
+    if MOST_NAME < name.len() {
+        return 0;
+    }
+    let fd = os::open_read(name);
+    if fd < 0 {
+        return 0;
+    }
+    let size = read_sheet(fd, sheet);
+    libc::close(fd);
+    size
+}
+
+// Reads until the first line has ended, the buffer is full or the input ends; how many bytes it then holds.
+fn read_name(input: &mut [u8]) -> usize
+    ensures { λ r. ⌜ r ≤ length (now (input .exit)) ⌝ }
+{
+    let mut n = 0;
+    while n < input.len() {
+        let got = read_more(input, n);
+        if got == 0 {
+            return n;
+        }
+        let end = n + got;
+        if bytes::scan::find(input, n, end, LINE_FEED) < end {
+            return end;
+        }
+        n = end;
+    }
+    n
+}
+
+// ---- answering
+
+// The place for the next answer: where the output has too little room for it, what it holds is written out, and its front is the place.
+fn room(out: &[u8], at: usize) -> usize
+    requires { ⌜ (at ≤ length (now out)) × (mostBytes ≤ length (now out)) ⌝ }
+    ensures { λ r. ⌜ r + mostBytes ≤ length (now (out .entry)) ⌝ }
+{
+    if out.len() - at < lines::MOST_BYTES {
+        io::write_all(STDOUT_FILENO, &out[0..at]);
+        return 0;
+    }
+    at
+}
+
+// Answers the input's lines from `from` on, to its last line feed.
+fn answer_all(sheet: &[u8], p: Places, input: &[u8], from: usize, out: &mut [u8], at: usize) -> Rest
+    requires { ⌜ (checkOf (now sheet) .number ≡ 0) × (p ≡ placesOf (now sheet)) × (from ≤ length (now input)) × (at + mostBytes ≤ length (now out)) ⌝ }
+    ensures { λ r. ⌜ (r .from ≤ length (now (input .entry))) × (r .at + mostBytes ≤ length (now (out .exit))) ⌝ }
+{
+    let mut i = from;
+    let mut o = at;
+    while i < input.len() {
+        let d = blocks::answer_lines(sheet, p, input, i, out, o);
+        if !d.full {
+            return Rest {
+                from: d.read,
+                at: d.written,
+            };
+        }
+        o = room(out, d.written);
+        i = d.read;
+    }
+    Rest { from: i, at: o }
+}
+
+// Moves the bytes from `from` up to `to` to the buffer's front.
+fn keep(input: &mut [u8], from: usize, to: usize)
+    requires { ⌜ (from ≤ to) × (to ≤ length (now input)) ⌝ }
+{
+    let mut i = 0;
+    let n = to - from;
+    while i < n {
+        let b = input[from + i];
+        input[i] = b;
+        i += 1;
+    }
+}
+
+// Answers the lines of the buffer's first `to` bytes from `from` on, and keeps what stands behind the last line feed.
+fn answer_block(
+    sheet: &[u8],
+    p: Places,
+    input: &mut [u8],
+    from: usize,
+    to: usize,
+    out: &mut [u8],
+    at: usize,
+) -> State
+    requires { ⌜ (checkOf (now sheet) .number ≡ 0) × (p ≡ placesOf (now sheet)) × (from ≤ to) × (to ≤ length (now input)) × (at + mostBytes ≤ length (now out)) ⌝ }
+    ensures { λ r. ⌜ (r .kept < 256) × (r .at + mostBytes ≤ length (now (out .exit))) ⌝ }
+{
+    let r = answer_all(sheet, p, &input[0..to], from, out, at);
+    let start = r.from;
+    let place = r.at;
+    if MOST_NAME < to - start {
+        return State {
+            kept: 0,
+            long: true,
+            at: place,
+        };
+    }
+    keep(input, start, to);
+    State {
+        kept: to - start,
+        long: false,
+        at: place,
+    }
+}
+
+// The same, where the buffer begins within a line that is too long: that line ends at the first line feed, and is of no known form.
+fn end_long(
+    sheet: &[u8],
+    p: Places,
+    input: &mut [u8],
+    to: usize,
+    out: &mut [u8],
+    at: usize,
+) -> State
+    requires { ⌜ (checkOf (now sheet) .number ≡ 0) × (p ≡ placesOf (now sheet)) × (to ≤ length (now input)) × (at + mostBytes ≤ length (now out)) ⌝ }
+    ensures { λ r. ⌜ (r .kept < 256) × (r .at + mostBytes ≤ length (now (out .exit))) ⌝ }
+{
+    let end = bytes::scan::find(input, 0, to, LINE_FEED);
+    if end == to {
+        return State {
+            kept: 0,
+            long: true,
+            at,
+        };
+    }
+    let next = lines::put_unknown(out, at);
+    let place = room(out, next);
+    answer_block(sheet, p, input, end + 1, to, out, place)
+}
+
+// The same, for the bytes that a read put behind those that were kept.
+fn answer_next(
+    sheet: &[u8],
+    p: Places,
+    input: &mut [u8],
+    to: usize,
+    s: State,
+    out: &mut [u8],
+) -> State
+    requires { ⌜ (checkOf (now sheet) .number ≡ 0) × (p ≡ placesOf (now sheet)) × (to ≤ length (now input)) × (s .at + mostBytes ≤ length (now out)) ⌝ }
+    ensures { λ r. ⌜ (r .kept < 256) × (r .at + mostBytes ≤ length (now (out .exit))) ⌝ }
+{
+    let at = s.at;
+    if s.long {
+        return end_long(sheet, p, input, to, out, at);
+    }
+    answer_block(sheet, p, input, 0, to, out, at)
+}
+
+// Answers what is left at the input's end, a line too where there is any; the place in the output.
+fn answer_last(sheet: &[u8], p: Places, input: &[u8], s: State, out: &mut [u8]) -> usize
+    requires { ⌜ (checkOf (now sheet) .number ≡ 0) × (p ≡ placesOf (now sheet)) × (s .kept ≤ length (now input)) × (s .at + mostBytes ≤ length (now out)) ⌝ }
+    ensures { λ r. ⌜ r ≤ length (now (out .exit)) ⌝ }
+{
+    let kept = s.kept;
+    let at = s.at;
+    if s.long {
+        return lines::put_unknown(out, at);
+    }
+    if kept == 0 {
+        return at;
+    }
+    lines::answer(sheet, p, &input[0..kept], out, at)
+}
+
+// Answers the lines of the first block, and reads and answers block after block. A proved loop has to end, so it counts its turns down from a number that no run
+// uses up.
+fn answer_input(
+    sheet: &[u8],
+    p: Places,
+    input: &mut [u8],
+    from: usize,
+    to: usize,
+    out: &mut [u8],
+    at: usize,
+)
+    requires { ⌜ (checkOf (now sheet) .number ≡ 0) × (p ≡ placesOf (now sheet)) × (from ≤ to) × (to ≤ length (now input)) × (256 ≤ length (now input)) × (at + mostBytes ≤ length (now out)) ⌝ }
+{
+    let mut s = answer_block(sheet, p, input, from, to, out, at);
+    let mut turns = u64::MAX;
+    while 0 < turns {
+        let kept = s.kept;
+        let got = read_more(input, kept);
+        if got == 0 {
+            let end = answer_last(sheet, p, input, s, out);
+            io::write_all(STDOUT_FILENO, &out[0..end]);
+            return;
+        }
+        s = answer_next(sheet, p, input, kept + got, s, out);
+        turns -= 1;
+    }
+}
+
+// The place behind a line that ends at `end` of n bytes.
+fn behind(end: usize, n: usize) -> usize
+    requires { ⌜ end ≤ n ⌝ }
+    ensures { λ r. ⌜ r ≤ n ⌝ }
+{
+    if end < n {
+        return end + 1;
+    }
+    n
+}
+
+// Prints the check's answer and, where it is 0, the answers to the lines behind the name, which ends at `end` of the input's first n bytes.
+fn run(sheet: &[u8], input: &mut [u8], end: usize, n: usize, out: &mut [u8])
+    requires { ⌜ (end ≤ n) × (n ≤ length (now input)) × (256 ≤ length (now input)) × (mostBytes + mostBytes ≤ length (now out)) ⌝ }
+{
+    let v = bodies::check(sheet);
+    let number = v.number;
+    let at = lines::put_verdict(out, 0, number, v.kind, v.row);
+    if number != 0 {
+        io::write_all(STDOUT_FILENO, &out[0..at]);
+        return;
+    }
+    let from = behind(end, n);
+    answer_input(sheet, entries::places_of(sheet), input, from, n, out, at);
+}
+
+fn main() {
+    let mut sheet = [0u8; 65536];
+    let mut input = [0u8; 65536];
+    let mut out = [0u8; 65536];
+    let n = read_name(&mut input);
+    let end = bytes::scan::find(&input, 0, n, LINE_FEED);
+    let size = load(&input[0..end], &mut sheet);
+    run(&sheet[0..size], &mut input, end, n, &mut out);
+}
