@@ -33,11 +33,13 @@ use Rattle.inverse.specs.Inverse.{reducedNorthing, inverseOf}
 use Rattle.grid.specs.Grid.{gridOf}
 use Rattle.convert.specs.Conversions.{geographicToPlane, planeToGeographic, convergenceAndScale}
 use Rattle.convert.proofs.Checked.{forward-passes, inverse-passes, grid-passes, after-pass}
-use Rattle.correct.specs.Correction.{fromFirstMinute, hasRow, judgedBy, correctionOf, correctedOf}
-use Rattle.correct.proofs.Place.{row-there}
+use Rattle.judge.specs.Judge.{fromFirstMinute, hasRow, judgedBy}
+use Rattle.correct.specs.Correction.{correctionOf, correctedOf}
+use Rattle.judge.proofs.Place.{row-there}
 use Rattle.correct.proofs.RowWords.{FiguresFit, figures-fit}
 use Rattle.correct.proofs.Rewritten.{minutes-stay, figures-stay, figures-new}
-use Rattle.correct.proofs.Judged.{Kept, zero-keeps, kept-zero, number-is}
+use Rattle.judge.proofs.Kept.{Kept, zero-keeps, kept-zero}
+use Rattle.correct.proofs.Judged.{number-is}
 use Rattle.touched.specs.Touched.{touch, noTouch, hasMinute, rowNamed, nearRow, forwardTouched, abovePrior, belowNext, inverseTouched, geographicTouched, planeTouched}
 use Rattle.touched.proofs.Beside.{two-rows}
 use Rattle.promises.specs.Corrections.{Passes, Word, Words, putIn, FarLatitude, Corrects, Afresh, Local, Untouched, Demand3, EachRow}

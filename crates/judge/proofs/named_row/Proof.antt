@@ -1,4 +1,4 @@
--- `correct::named_row` meets its contract. Assumes nothing.
+-- `judge::named_row` meets its contract. Assumes nothing.
 use mathlib.Core.Path.{_≡_, ap, _∙_}
 use Prim.Native.Nat.{_-_}
 use lib.IntN.{natAbs}
@@ -7,12 +7,12 @@ use mir.Syntax.{w32, w64}
 use mir.Val.{toZ, ofZ}
 use mir.Facts.{toZ-ofZ}
 use Rattle.figures.proofs.Sizes.{Size}
-use Rattle.correct.specs.Correction.{fromFirstMinute}
-use Rattle.correct.proofs.Place.{row-size, row-there, cast-place}
+use Rattle.judge.specs.Judge.{fromFirstMinute}
+use Rattle.judge.proofs.Place.{row-size, row-there, cast-place}
 use borrow.Author.Needs.{sfits-of}
 use borrow.Author.Needs.{needs}
-use Rattle.correct.proofs.named_row.Statement.{statement}
-use Rattle.correct.proofs.named_row.Tie as tie
+use Rattle.judge.proofs.named_row.Statement.{statement}
+use Rattle.judge.proofs.named_row.Tie as tie
 
 -- how far the minute stands from the first row's
 place : (c : tie.After-from-first-minute) → toZ w64 (ofZ w64 (c .from-first-minute .result)) ≡ fromFirstMinute (now (c .before .before .args .b)) (c .before .before .args .minute)

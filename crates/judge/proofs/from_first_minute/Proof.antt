@@ -1,13 +1,13 @@
--- `correct::from_first_minute` meets its contract. Assumes nothing.
+-- `judge::from_first_minute` meets its contract. Assumes nothing.
 use mathlib.Core.Path.{ap, _∙_}
 use lib.IntN.{ℤ, _-ℤ_}
 use mir.Syntax.{w32}
 use mir.Val.{ofZ}
 use Rattle.figures.proofs.Holds.{Holds, held, held-i32, size-i32, cast, cast-fits, difference, difference-fits}
-use Rattle.correct.specs.Correction.{fromFirstMinute}
+use Rattle.judge.specs.Judge.{fromFirstMinute}
 use borrow.Author.Needs.{needs}
-use Rattle.correct.proofs.from_first_minute.Statement.{statement}
-use Rattle.correct.proofs.from_first_minute.Tie as tie
+use Rattle.judge.proofs.from_first_minute.Statement.{statement}
+use Rattle.judge.proofs.from_first_minute.Tie as tie
 
 minute : (c : tie.Start) → Holds w32 (ofZ w32 (c .args .minute)) (c .args .minute) 2_147_483_648
 minute c = held (c .fits .minute) (size-i32 (c .fits .minute))

@@ -15,7 +15,7 @@ use Rattle.figures.proofs.Tests.{both}
 use Rattle.rules.specs.Limits.{inRange, sameAs}
 use Rattle.rules.proofs.WhatPasses.{range-size}
 use Rattle.rows.specs.Rows.{rowAt}
-use Rattle.correct.specs.Correction.{fromFirstMinute, namedRow, hasRow}
+use Rattle.judge.specs.Judge.{fromFirstMinute, namedRow, hasRow}
 
 -- ---- p among n rows
 below : (p : ℤ) (n : ℕ) → ltZ p (pos 0) ≡ true → inRange (pos 0) p (pos (n - 1)) ≡ false

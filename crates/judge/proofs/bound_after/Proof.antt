@@ -1,8 +1,8 @@
--- `correct::bound_after` meets its contract. Assumes nothing.
-use Rattle.correct.proofs.Steps.{after-is, none-after}
+-- `judge::bound_after` meets its contract. Assumes nothing.
+use Rattle.judge.proofs.Bounds.{after-is, none-after}
 use borrow.Author.Needs.{needs}
-use Rattle.correct.proofs.bound_after.Statement.{statement}
-use Rattle.correct.proofs.bound_after.Tie as tie
+use Rattle.judge.proofs.bound_after.Statement.{statement}
+use Rattle.judge.proofs.bound_after.Tie as tie
 
 returns : tie.Need-returns
 returns c = search after-is

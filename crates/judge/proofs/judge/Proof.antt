@@ -1,14 +1,14 @@
--- `correct::judge` meets its contract. Assumes nothing.
+-- `judge::judge` meets its contract. Assumes nothing.
 use mathlib.Core.Path.{_≡_, refl, ap, _∙_}
 use Prim.Native.Nat.{ℕ}
 use denote.Ref.{now}
 use mir.Syntax.{w32}
 use mir.Val.{toZ, ofZ}
 use Rattle.words.proofs.Refusals.{stop, go, kept}
-use Rattle.correct.specs.Correction.{namedRow, hasRow, boundBefore, boundAfter, judgedBy}
+use Rattle.judge.specs.Judge.{namedRow, hasRow, boundBefore, boundAfter, judgedBy}
 use borrow.Author.Needs.{needs}
-use Rattle.correct.proofs.judge.Statement.{statement}
-use Rattle.correct.proofs.judge.Tie as tie
+use Rattle.judge.proofs.judge.Statement.{statement}
+use Rattle.judge.proofs.judge.Tie as tie
 
 -- the tests, of the minute itself
 row-is : (c : tie.After-has-row) → c .has-row .result ≡ hasRow (now (c .before .before .args .b)) (c .before .before .args .n) (c .before .before .args .minute)

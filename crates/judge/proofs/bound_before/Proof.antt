@@ -1,8 +1,8 @@
--- `correct::bound_before` meets its contract. Assumes nothing.
-use Rattle.correct.proofs.Steps.{before-is, none-before}
+-- `judge::bound_before` meets its contract. Assumes nothing.
+use Rattle.judge.proofs.Bounds.{before-is, none-before}
 use borrow.Author.Needs.{needs}
-use Rattle.correct.proofs.bound_before.Statement.{statement}
-use Rattle.correct.proofs.bound_before.Tie as tie
+use Rattle.judge.proofs.bound_before.Statement.{statement}
+use Rattle.judge.proofs.bound_before.Tie as tie
 
 returns : tie.Need-returns
 returns c = search before-is

@@ -1,4 +1,4 @@
--- `correct::has_row` meets its contract. Assumes nothing.
+-- `judge::has_row` meets its contract. Assumes nothing.
 use mathlib.Core.Path.{_≡_, sym, ap, _∙_}
 use Prim.Native.Nat.{_-_}
 use lib.IntN.{ℤ, pos}
@@ -9,12 +9,12 @@ use mir.Val.{SFits, toZ, ofZ}
 use mir.Facts.{toZ-ofZ}
 use Rattle.figures.proofs.Sizes.{Size}
 use Rattle.rules.specs.Limits.{sameAs}
-use Rattle.correct.specs.Correction.{fromFirstMinute}
-use Rattle.correct.proofs.Place.{none-below, none-above, place-size, by-minute, cast-place, eight-place, own-word}
+use Rattle.judge.specs.Judge.{fromFirstMinute}
+use Rattle.judge.proofs.Place.{none-below, none-above, place-size, by-minute, cast-place, eight-place, own-word}
 use borrow.Author.Needs.{sfits-of}
 use borrow.Author.Needs.{needs}
-use Rattle.correct.proofs.has_row.Statement.{statement}
-use Rattle.correct.proofs.has_row.Tie as tie
+use Rattle.judge.proofs.has_row.Statement.{statement}
+use Rattle.judge.proofs.has_row.Tie as tie
 
 -- how far the minute stands from the first row's
 place : (c : tie.After-from-first-minute) → toZ w64 (ofZ w64 (c .from-first-minute .result)) ≡ fromFirstMinute (now (c .before .before .args .b)) (c .before .before .args .minute)
