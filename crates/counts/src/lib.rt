@@ -1,8 +1,8 @@
-// Floats that are counts: a drawing tool's f64 is taken where it is a whole number within ±2,147,483,647, by its bits.
+// Floats that are counts: a drawing tool's f64 is a count where it is a whole number within ±2,147,483,647. It is tested by its bits, and not by arithmetic on floats.
 ghost use mathlib.Core.Path.{_≡_};
 ghost use Rattle.counts.specs.Whole.{wholeOf};
 
-// The count that a float is, or none.
+// The count that a float is; or no count.
 pub enum Whole {
     Count(i32),
     No,
@@ -22,7 +22,7 @@ const OF_MOST: u64 = 1053;
 
 const OF_UNIT: u64 = 1075;
 
-// The whole number within ±2,147,483,647 that x is, by its bits. −0 is 0.
+// The whole number within ±2,147,483,647 that x is. −0 is 0. A fraction, a larger number, an infinity and a NaN are no counts.
 pub fn whole_of(x: f64) -> Whole
     ensures { λ r. ⌜ r ≡ wholeOf x ⌝ }
 {

@@ -1,4 +1,4 @@
--- "Tools' door." What the door answers to a point, by the definitions of the conversions.
+-- "Tools' door." What the door answers to a point, by the definitions of the conversions in `convert`.
 -- s is the sheet, p the point.
 use mathlib.Core.List.{List}
 use Prim.Native.Nat.{ℕ}
@@ -45,7 +45,7 @@ abbrev pub secondOf : Answer → Float
 secondOf (Counts a b) = b
 secondOf (Refused n) = float (pos 0)
 
--- "15 is answered before the sheet is looked at": `convert` is what looks at it.
+-- "15 is answered before the sheet is looked at": `convert` is what looks at it, and is asked only where both floats are counts.
 unfoldable pub doorOf : Pair → (ℤ → ℤ → Answer) → Answer
 doorOf Pair.No convert = Refused 15
 doorOf (Pair.Of a b) convert = convert a b
@@ -60,18 +60,18 @@ geographicAnswer r = answerOf (r .number) (r .latitude) (r .longitude)
 abbrev pub gridAnswer : Grid → Answer
 gridAnswer r = answerOf (r .number) (r .convergence) (r .scale)
 
--- "Geographic to plane" through the door: x and y in 0.01 ft.
+-- "Geographic to plane" through the door: latitude and west longitude in 0.001″ to x and y in 0.01 ft.
 abbrev pub toPlane : List ℕ → Point → Answer
 toPlane s p = doorOf (countsOf p) (λ a b. planeAnswer (geographicToPlane s a b))
 
--- "Plane to geographic": latitude and west longitude in 0.001″.
+-- "Plane to geographic" through the door: x and y in 0.01 ft to latitude and west longitude in 0.001″.
 abbrev pub toGeographic : List ℕ → Point → Answer
 toGeographic s p = doorOf (countsOf p) (λ a b. geographicAnswer (planeToGeographic s a b))
 
--- "Convergence and scale": Δα in 0.1″ and k in 10⁻⁷.
+-- "Convergence and scale" through the door: x and y in 0.01 ft to Δα in 0.1″ and k in 10⁻⁷.
 abbrev pub toGrid : List ℕ → Point → Answer
 toGrid s p = doorOf (countsOf p) (λ a b. gridAnswer (convergenceAndScale s a b))
 
--- "A further question gives a hundredths count in feet as one f64 division by 100"
+-- "A further question gives a hundredths count in feet as one f64 division by 100": both floats hold their counts as they are, and the quotient is rounded once.
 abbrev pub feetOf : ℤ → Float
 feetOf n = div binary64 (float n) (float (pos 100))

@@ -1,22 +1,22 @@
-// The tools' door: drawing tools hand over a point as two f64 counts, and get two f64 counts or a refusal number. A float that is no count is told before the sheet is
-// looked at. A count of 0.01 ft is given in feet besides.
+// The tools' door: drawing tools hand over a point as two f64 counts, and get two f64 counts or a refusal number. Where a float is no count the answer is 15, whatever the
+// sheet: it is not looked at. All else is what the conversions of `convert` answer. A count of 0.01 ft is given in feet besides.
 use counts::Whole;
 ghost use mathlib.Core.Path.{_≡_};
 ghost use Rattle.door.specs.Door.{countsOf, answerOf, toPlane, toGeographic, toGrid, feetOf};
 
-// The tools' point: latitude and west longitude in 0.001″, or x and y in 0.01 ft.
+// The tools' point: latitude and west longitude in 0.001″, or x and y in 0.01 ft, in this order.
 pub struct Point {
     pub first: f64,
     pub second: f64,
 }
 
-// What the tools get: two counts, or a refusal number.
+// What the tools get: two counts, in the order and the units that the function names, or a refusal number. A count of zero is +0.
 pub enum Answer {
     Counts(f64, f64),
     Refused(u32),
 }
 
-// The counts that a point's floats are, where both are counts.
+// The counts that a point's floats are; none where one of the two is no count.
 pub enum Pair {
     Of(i32, i32),
     No,
@@ -35,7 +35,7 @@ fn counts_of(p: Point) -> Pair
     Pair::Of(a, b)
 }
 
-// A conversion's number and two values, as the tools get them.
+// A conversion's number and two values, as the tools get them: the number where it is not 0, else the values as floats.
 fn answer_of(number: u32, a: i32, b: i32) -> Answer
     ensures { λ r. ⌜ r ≡ answerOf number a b ⌝ }
 {
@@ -45,7 +45,8 @@ fn answer_of(number: u32, a: i32, b: i32) -> Answer
     Answer::Counts(a as f64, b as f64)
 }
 
-// Geographic to plane: x and y in 0.01 ft; or 15, the check's number, 10, 11.
+// Geographic to plane: of latitude and west longitude in 0.001″, x and y in 0.01 ft.
+// Refusals in order: 15, before the sheet is looked at; the check's number, 1 to 9; 10; 11.
 pub fn geographic_to_plane(sheet: &[u8], p: Point) -> Answer
     ensures { λ r. ⌜ r ≡ toPlane (now (sheet .entry)) p ⌝ }
 {
@@ -56,7 +57,8 @@ pub fn geographic_to_plane(sheet: &[u8], p: Point) -> Answer
     answer_of(r.number, r.x, r.y)
 }
 
-// Plane to geographic: latitude and west longitude in 0.001″; or 15, the check's number, 12, 13, 14, 11.
+// Plane to geographic: of x and y in 0.01 ft, latitude and west longitude in 0.001″.
+// Refusals in order: 15, before the sheet is looked at; the check's number, 1 to 9; 12; 13; 14; 11.
 pub fn plane_to_geographic(sheet: &[u8], p: Point) -> Answer
     ensures { λ r. ⌜ r ≡ toGeographic (now (sheet .entry)) p ⌝ }
 {
@@ -67,7 +69,8 @@ pub fn plane_to_geographic(sheet: &[u8], p: Point) -> Answer
     answer_of(r.number, r.latitude, r.longitude)
 }
 
-// Convergence and scale: Δα in 0.1″ and k in 10⁻⁷; or 15, the check's number, 12, 13.
+// Convergence and scale: of x and y in 0.01 ft, Δα in 0.1″ and k in 10⁻⁷.
+// Refusals in order: 15, before the sheet is looked at; the check's number, 1 to 9; 12; 13.
 pub fn convergence_and_scale(sheet: &[u8], p: Point) -> Answer
     ensures { λ r. ⌜ r ≡ toGrid (now (sheet .entry)) p ⌝ }
 {
@@ -78,7 +81,7 @@ pub fn convergence_and_scale(sheet: &[u8], p: Point) -> Answer
     answer_of(r.number, r.convergence, r.scale)
 }
 
-// A count of 0.01 ft in feet, by one division. An f64 holds each count as it is.
+// A count of 0.01 ft in feet, for any count: one f64 division by 100, rounded once. An f64 holds each count as it is.
 pub fn feet(count: i32) -> f64
     ensures { λ r. ⌜ r ≡ feetOf count ⌝ }
 {

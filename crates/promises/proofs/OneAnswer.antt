@@ -19,6 +19,20 @@ use Rattle.touched.proofs.plane_touched.Kinds as plane-kinds
 use Rattle.touched.proofs.plane_touched.Reads as plane-reads
 use Rattle.correct.proofs.correct.Kinds as correct-kinds
 use Rattle.correct.proofs.correct.Reads as correct-reads
+use Rattle.batch.proofs.batch.Kinds as batch-kinds
+use Rattle.batch.proofs.batch.Reads as batch-reads
+use Rattle.counts.proofs.whole_of.Kinds as whole-kinds
+use Rattle.counts.proofs.whole_of.Reads as whole-reads
+use Rattle.door.proofs.geographic_to_plane.Kinds as door-forward-kinds
+use Rattle.door.proofs.geographic_to_plane.Reads as door-forward-reads
+use Rattle.door.proofs.plane_to_geographic.Kinds as door-inverse-kinds
+use Rattle.door.proofs.plane_to_geographic.Reads as door-inverse-reads
+use Rattle.door.proofs.convergence_and_scale.Kinds as door-grid-kinds
+use Rattle.door.proofs.convergence_and_scale.Reads as door-grid-reads
+use Rattle.door.proofs.feet.Kinds as feet-kinds
+use Rattle.door.proofs.feet.Reads as feet-reads
+use Rattle.reader.proofs.read_entry.Kinds as entry-kinds
+use Rattle.reader.proofs.read_entry.Reads as entry-reads
 
 -- `bodies::check`
 pub one-check : (κs : Lfts 1) (sheet : Dens κs check-kinds.ps) (r t : resT check-kinds.r κs .Denot) (x y : AtExit (endedOf 1 check-kinds.ps check-kinds.r) κs)
@@ -54,3 +68,38 @@ one-plane-touch κs given r t x y p q = p ∙ sym q
 pub one-correction : (κs : Lfts 1) (given : Dens κs correct-kinds.ps) (r t : resT correct-kinds.r κs .Denot) (x y : AtExit (endedOf 1 correct-kinds.ps correct-kinds.r) κs)
     → correct-reads.Learnt κs given r x → correct-reads.Learnt κs given t y → (r ≡ t) × (now (x .0) ≡ now (y .0))
 one-correction κs given r t x y p q = (p .0 ∙ sym (q .0), p .1 ∙ sym (q .1))
+
+-- `batch::batch`: one number and count, and one content of the answers' memory
+pub one-batch : (κs : Lfts 3) (given : Dens κs batch-kinds.ps) (r t : resT batch-kinds.r κs .Denot) (x y : AtExit (endedOf 3 batch-kinds.ps batch-kinds.r) κs)
+    → batch-reads.Learnt κs given r x → batch-reads.Learnt κs given t y → (r ≡ t) × (now (x .1 .1 .0) ≡ now (y .1 .1 .0))
+one-batch κs given r t x y p q = (p .0 ∙ sym (q .0), p .1 ∙ sym (q .1))
+
+-- `counts::whole_of`
+pub one-whole : (κs : Lfts 0) (given : Dens κs whole-kinds.ps) (r t : resT whole-kinds.r κs .Denot) (x y : AtExit (endedOf 0 whole-kinds.ps whole-kinds.r) κs)
+    → whole-reads.Learnt κs given r x → whole-reads.Learnt κs given t y → r ≡ t
+one-whole κs given r t x y p q = p ∙ sym q
+
+-- `door::geographic_to_plane`
+pub one-door-plane : (κs : Lfts 1) (given : Dens κs door-forward-kinds.ps) (r t : resT door-forward-kinds.r κs .Denot) (x y : AtExit (endedOf 1 door-forward-kinds.ps door-forward-kinds.r) κs)
+    → door-forward-reads.Learnt κs given r x → door-forward-reads.Learnt κs given t y → r ≡ t
+one-door-plane κs given r t x y p q = p ∙ sym q
+
+-- `door::plane_to_geographic`
+pub one-door-geographic : (κs : Lfts 1) (given : Dens κs door-inverse-kinds.ps) (r t : resT door-inverse-kinds.r κs .Denot) (x y : AtExit (endedOf 1 door-inverse-kinds.ps door-inverse-kinds.r) κs)
+    → door-inverse-reads.Learnt κs given r x → door-inverse-reads.Learnt κs given t y → r ≡ t
+one-door-geographic κs given r t x y p q = p ∙ sym q
+
+-- `door::convergence_and_scale`
+pub one-door-grid : (κs : Lfts 1) (given : Dens κs door-grid-kinds.ps) (r t : resT door-grid-kinds.r κs .Denot) (x y : AtExit (endedOf 1 door-grid-kinds.ps door-grid-kinds.r) κs)
+    → door-grid-reads.Learnt κs given r x → door-grid-reads.Learnt κs given t y → r ≡ t
+one-door-grid κs given r t x y p q = p ∙ sym q
+
+-- `door::feet`
+pub one-feet : (κs : Lfts 0) (given : Dens κs feet-kinds.ps) (r t : resT feet-kinds.r κs .Denot) (x y : AtExit (endedOf 0 feet-kinds.ps feet-kinds.r) κs)
+    → feet-reads.Learnt κs given r x → feet-reads.Learnt κs given t y → r ≡ t
+one-feet κs given r t x y p q = p ∙ sym q
+
+-- `reader::read_entry`
+pub one-entry : (κs : Lfts 1) (given : Dens κs entry-kinds.ps) (r t : resT entry-kinds.r κs .Denot) (x y : AtExit (endedOf 1 entry-kinds.ps entry-kinds.r) κs)
+    → entry-reads.Learnt κs given r x → entry-reads.Learnt κs given t y → r ≡ t
+one-entry κs given r t x y p q = p ∙ sym q

@@ -9,7 +9,7 @@ pub struct Reader<'a> {
     pub place: usize,
 }
 
-// An entry of the contents: kind, start (a word number) and rows, read without a sign; or the end, where there is none.
+// An entry of the contents: kind, start (a word number) and rows, read without a sign and not judged; or the end, where there is none.
 pub enum Entry {
     Of(u32, u32, u32),
     End,
@@ -50,7 +50,7 @@ pub fn new<'a>(sheet: &'a [u8]) -> Reader<'a>
     }
 }
 
-// The entry at the reader's place.
+// The entry at the reader's place. The reader is a value: it stays where it is.
 pub fn next<'a>(r: Reader<'a>) -> Entry
     ensures { λ t. ⌜ t ≡ entryAt (now (r .entry .sheet)) (r .entry .place) ⌝ }
 {
