@@ -42,6 +42,12 @@ pub before : (p : Pair) (convert : ℤ → ℤ → Answer) → p ≡ Pair.No →
 unfolding doorOf
 before p convert e = rw e
 
+-- of two conversions that answer the same to each two counts
+pub same-door : (p : Pair) (f g : ℤ → ℤ → Answer) → ((a b : ℤ) → f a b ≡ g a b) → doorOf p f ≡ doorOf p g
+unfolding doorOf
+same-door Pair.No f g e = refl
+same-door (Pair.Of a b) f g e = e a b
+
 -- a and b as the conversion reads them from their bits are a′ and b′, and `tell` gives the tools what it answers
 pub after : {R : Type 0} (f : ℤ → ℤ → R) (tell : R → Answer) (p : Pair) {a b a′ b′ : ℤ} {r : R} (answer : Answer)
     → p ≡ Pair.Of a b → a′ ≡ a → b′ ≡ b → r ≡ f a′ b′ → answer ≡ tell r → answer ≡ doorOf p (λ a b. tell (f a b))
