@@ -114,15 +114,15 @@ pub one-feet : (κs : Lfts 0) (given : Dens κs feet-kinds.ps) (r t : resT feet-
     → feet-reads.Learnt κs given r x → feet-reads.Learnt κs given t y → r ≡ t
 one-feet κs given r t x y p q = p ∙ sym q
 
--- `reader::read_entry`
-pub one-entry : (κs : Lfts 1) (given : Dens κs entry-kinds.ps) (r t : resT entry-kinds.r κs .Denot) (x y : AtExit (endedOf 1 entry-kinds.ps entry-kinds.r) κs)
-    → entry-reads.Learnt κs given r x → entry-reads.Learnt κs given t y → r ≡ t
-one-entry κs given r t x y p q = p ∙ sym q
-
 -- `reader::entry_at`
 pub one-entry-at : (κs : Lfts 1) (given : Dens κs at-kinds.ps) (r t : resT at-kinds.r κs .Denot) (x y : AtExit (endedOf 1 at-kinds.ps at-kinds.r) κs)
     → at-reads.Learnt κs given r x → at-reads.Learnt κs given t y → r ≡ t
 one-entry-at κs given r t x y p q = p ∙ sym q
+
+-- `reader::read_entry`
+pub one-entry : (κs : Lfts 1) (given : Dens κs entry-kinds.ps) (r t : resT entry-kinds.r κs .Denot) (x y : AtExit (endedOf 1 entry-kinds.ps entry-kinds.r) κs)
+    → entry-reads.Learnt κs given r x → entry-reads.Learnt κs given t y → r ≡ t
+one-entry κs given r t x y p q = p ∙ sym q
 
 -- The functions over the reader's small value are proved by hand, and have no `Learnt`: there what the contract ensures of r and of t entails that the two are the same.
 same-reader : (r t : Reader) → r .sheet ≡ t .sheet → r .place ≡ t .place → r ≡ t
