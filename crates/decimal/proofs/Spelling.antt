@@ -98,7 +98,7 @@ pub then : {old mid new : List ℕ} {at i r : ℕ} {a b : List ℕ} → Wrote ol
 then {old} {mid} {new} {at} {i} {r} {a} {b} p q =
     record {
       place = q .place ∙ rw (p .place, length-append a b) (omega arith);
-      bytes = q .bytes ∙ rw (p .bytes) (sets-after old at i a b (p .place))
+      bytes = q .bytes ∙ rw (p .bytes) (sets-after old at i a b (p .place));
     }
 
 -- ---- a signed number, after its minus or without one

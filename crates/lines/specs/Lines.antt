@@ -1,5 +1,5 @@
 -- The lines of the "Points program": what one asks, and what is printed for it. A line is its bytes without the line feed; s is the sheet.
-use Prim.Native.Nat.{ℕ, _+_, _≤_}
+use Prim.Native.Nat.{ℕ, _+_}
 use mathlib.Core.Bool.{Bool, _||_}
 use mathlib.Core.List.{List, [], _∷_, _++_}
 use lib.Dec.{leb, ltb, eqb}
@@ -7,7 +7,6 @@ use lib.IntN.{ℤ, pos}
 use lib.ListN.{length, drop, getD}
 use lib.Seq.{sets}
 use Rattle.words.specs.Ladder.{need, whereIs}
-use Rattle.contents.specs.declared.Verdict.{Verdict}
 use Rattle.forward.specs.declared.Plane.{Plane}
 use Rattle.inverse.specs.declared.Geographic.{Geographic}
 use Rattle.grid.specs.declared.Grid.{Grid}

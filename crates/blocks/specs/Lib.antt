@@ -1,0 +1,2 @@
+-- The lines of a block.
+pub mod Blocks
