@@ -1,1 +1,3 @@
+-- Laws of a batch: one turn of it, and what it writes.
 pub mod Turns
+pub mod Written

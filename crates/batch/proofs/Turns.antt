@@ -26,7 +26,7 @@ behind t old vs k e h =
 
 -- ---- of a sheet's points
 module _ (s : List ℕ) (points : List ℤ) where
-  length-words : (n : ℕ) → length (words s points n) ≡ 3 * n
+  pub length-words : (n : ℕ) → length (words s points n) ≡ 3 * n
   unfolding words
   length-words zero = refl
   length-words (suc n) = simp (length-append, length-words n) (omega arith)

@@ -1,16 +1,15 @@
--- What the correction's number tells, and the body and the sheet after it. Assumes nothing.
+-- The correction's number, and the body and the sheet after it. Assumes nothing.
 use mathlib.Core.Path.{_≡_, refl, sym, ap, _∙_}
 use mathlib.Core.Bool.{Bool, true, false, cond}
 use mathlib.Core.List.{List}
-use Prim.Native.Nat.{ℕ, _+_, _*_, _-_, _≤_}
-use native.Mathlib.Omega.{arith}
-use lib.Dec.{eqb, lit≤}
+use Prim.Native.Nat.{ℕ, _+_, _*_, _-_}
+use lib.Dec.{eqb}
 use lib.IntN.{ℤ}
-use lib.ListN.{length, take, drop}
+use lib.ListN.{take, drop}
 use borrow.Rule.Slice.PartMut.{putMid}
 use Rattle.words.specs.Ladder.{whereIs}
 use Rattle.words.specs.Parts.{putPart}
-use Rattle.words.proofs.Refusals.{is, is-not, rung, past, refused, passed-on}
+use Rattle.words.proofs.Refusals.{is, is-not, refused, passed-on}
 use Rattle.words.proofs.PartWords.{part-is}
 use Rattle.words.proofs.PuttingParts.{part-back, put-back}
 use Rattle.entries.specs.declared.Place.{Place}
@@ -18,50 +17,24 @@ use Rattle.contents.specs.declared.Verdict.{Verdict}
 use Rattle.entries.specs.Layout.{latitude, widthOf}
 use Rattle.entries.specs.Entries.{startOf, rowsOf, bodyOf, placeOf}
 use Rattle.contents.specs.Contents.{numberOf, contentsOf}
-use Rattle.bodies.proofs.Parts.{part-rows}
 use Rattle.rules.specs.declared.Figures.{Figures}
-use Rattle.rules.specs.Latitude.{figuresInRange}
-use Rattle.correct.specs.Correction.{namedRow, hasRow, boundBefore, boundAfter, judgedBy, correctionOf, rewritten, correctedBody, withRow, correctedOf}
+use Rattle.judge.specs.Judge.{namedRow, judgedBy}
+use Rattle.judge.proofs.Kept.{Kept, zero-keeps}
+use Rattle.correct.specs.Correction.{correctionOf, rewritten, correctedBody, withRow, correctedOf}
 
--- ---- on the body
+-- ---- on the body, in the shape of the code
 module _ (b : List ℕ) (n : ℕ) (minute : ℤ) (f : Figures) where
-  -- a correction that keeps every rule
-  pub record Kept : Type 0 where
-    pub row : hasRow b n minute ≡ true
-    pub range : figuresInRange f ≡ true
-    pub before : boundBefore b (namedRow b minute) f ≡ true
-    pub after : boundAfter b n (namedRow b minute) f ≡ true
-
-  pub zero-keeps : judgedBy b n minute f ≡ 0 → Kept
-  unfolding judgedBy
-  zero-keeps e =
-      let p = rung _ 16 _ (λ q. omega arith) e in
-      let q = rung _ 6 _ (λ q. omega arith) (p .1) in
-      let r = rung _ 8 _ (λ q. omega arith) (q .1) in
-      let t = rung _ 8 0 (λ q. omega arith) (r .1) in
-      record { row = p .0; range = q .0; before = r .0; after = t .0 }
-
-  pub kept-zero : Kept → judgedBy b n minute f ≡ 0
-  unfolding judgedBy
-  kept-zero k = past 16 _ (k .row) ∙ past 6 _ (k .range) ∙ past 8 _ (k .before) ∙ past 8 0 (k .after)
-
-  -- ---- in the shape of the code
   module _ (number : ℕ) (e : number ≡ judgedBy b n minute f) where
     pub refused-stays : (number ≡ 0 → ⊥) → b ≡ correctedBody b n minute f
     unfolding correctedBody
     refused-stays h = is-not (judgedBy b n minute f) 0 (rewritten b n (namedRow b minute) f) b b (λ q. h (e ∙ q)) refl
 
-    pub accepted-keeps : number ≡ 0 → Kept
-    accepted-keeps z = zero-keeps (sym e ∙ z)
+    pub accepted-keeps : number ≡ 0 → Kept b n minute f
+    accepted-keeps z = zero-keeps b n minute f (sym e ∙ z)
 
     pub accepted-writes : number ≡ 0 → (r : ℕ) (t : List ℕ) → r ≡ namedRow b minute → t ≡ rewritten b n r f → t ≡ correctedBody b n minute f
     unfolding correctedBody
     accepted-writes z r t q w = is (judgedBy b n minute f) 0 (rewritten b n (namedRow b minute) f) b t (sym e ∙ z) (w ∙ rw q)
-
--- the part of the sheet that holds the latitude body has its rows
-pub lent-rows : (s : List ℕ) → contentsOf s .number ≡ 0 → (p : Place) (width : ℕ) → p ≡ placeOf s latitude → width ≡ widthOf latitude
-    → 32 * p .rows ≤ length (take (4 * p .start + 4 * (p .rows * width) - 4 * p .start) (drop (4 * p .start) s))
-lent-rows s z p width e w = omega (arith, part-rows s latitude z (lit≤ tt) (lit≤ tt) p width e w)
 
 -- ---- on the sheet
 module _ (s : List ℕ) (minute : ℤ) (f : Figures) where

@@ -1,6 +1,5 @@
 -- Laws of a correction. Other crates cite them.
 pub mod RowWords
-pub mod Place
 pub mod Steps
 pub mod Rewritten
 pub mod Judged

@@ -14,9 +14,10 @@ use Rattle.words.proofs.Refusals.{where-below, where-beyond}
 use Rattle.rules.specs.declared.Figures.{Figures}
 use Rattle.rules.specs.Latitude.{figuresInRange, withinBounds}
 use Rattle.rows.specs.Rows.{figuresAt, differencesAt}
-use Rattle.correct.specs.Correction.{boundBefore, boundAfter, putFigures, workedAt, reworked, rewritten}
+use Rattle.judge.specs.Judge.{boundBefore, boundAfter}
+use Rattle.correct.specs.Correction.{putFigures, workedAt, reworked, rewritten}
 use Rattle.correct.proofs.RowWords.{FiguresFit, figures-fit, DifferencesFit, length-putFigures, minute-by-figures, differences-by-figures, figures-elsewhere, figures-put, length-putDifferences, minute-by-differences, figures-by-differences, differences-elsewhere, differences-put}
-use Rattle.correct.proofs.Steps.{bound-before, bound-after}
+use Rattle.judge.proofs.Bounds.{bound-before, bound-after}
 
 -- ---- a row's differences worked again
 module _ (b : List ℕ) (n i : ℕ) where

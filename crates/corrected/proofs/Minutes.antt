@@ -22,8 +22,8 @@ use Rattle.tables.specs.Figures.{firstLatitude}
 use Rattle.tables.proofs.Ranges.{latitude-some}
 use Rattle.extent.specs.Extent.{fromFirst, latitudeKnown}
 use Rattle.extent.proofs.Reach.{latitude-reach}
-use Rattle.correct.specs.Correction.{fromFirstMinute, namedRow, hasRow}
-use Rattle.correct.proofs.Place.{row-size}
+use Rattle.judge.specs.Judge.{fromFirstMinute, namedRow, hasRow}
+use Rattle.judge.proofs.Place.{row-size}
 use Rattle.touched.specs.Touched.{hasMinute, rowNamed}
 use Rattle.corrected.proofs.Beside.{Outside}
 

@@ -17,9 +17,10 @@ use Rattle.rules.specs.Latitude.{figuresInRange, withinBounds, differencesOf, n
 use Rattle.rules.proofs.Ranges.{same-self}
 use Rattle.rows.specs.Rows.{figuresAt, differencesAt, rowAt, rowInRange}
 use Rattle.rows.proofs.PassingRows.{LatitudeRow}
-use Rattle.correct.specs.Correction.{boundBefore, boundAfter, workedAt, rewritten}
+use Rattle.judge.specs.Judge.{boundBefore, boundAfter}
+use Rattle.correct.specs.Correction.{workedAt, rewritten}
 use Rattle.correct.proofs.RowWords.{FiguresFit, DifferencesFit, figures-fit, differences-fit, none-fit}
-use Rattle.correct.proofs.Steps.{before-is, none-before, after-is, none-after, bound-before, bound-after}
+use Rattle.judge.proofs.Bounds.{before-is, none-before, after-is, none-after, bound-before, bound-after}
 use Rattle.correct.proofs.Rewritten.{minutes-stay, figures-stay, figures-new, differences-stay, differences-new, differences-before}
 
 -- differences are their own

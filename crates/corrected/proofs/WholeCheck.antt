@@ -19,7 +19,8 @@ use Rattle.rows.proofs.PassingRows.{LatitudeRow, latitude-passes}
 use Rattle.bodies.specs.Check.{rowFault, checkOf}
 use Rattle.bodies.proofs.Sound.{passes-sound, sound-passes, latitude-rows}
 use Rattle.tables.proofs.Parts.{contents-none}
-use Rattle.correct.specs.Correction.{boundBefore, boundAfter, rewritten, withRow}
+use Rattle.judge.specs.Judge.{boundBefore, boundAfter}
+use Rattle.correct.specs.Correction.{rewritten, withRow}
 use Rattle.correct.proofs.RowWords.{FiguresFit}
 use Rattle.corrected.proofs.WithRow.{body-long, contents-stay, rows-stay, body-stays, latitude-body}
 use Rattle.corrected.proofs.NewRows.{new-rows, range-kept, before-kept, after-kept}

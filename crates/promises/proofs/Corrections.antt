@@ -9,7 +9,7 @@ use native.Mathlib.Omega.{arith}
 use borrow.Author.Tests.{leb-true, ltb-false}
 use lib.Dec.{T}
 use lib.IntN.{ℤ, pos, negsuc, natAbs, _+ℤ_, _-ℤ_, _*ℤ_, -ℤ-+ℤ-cancel}
-use lib.ListN.{getD}
+use lib.ListN.{length, getD}
 use lib.Signed.{leZ, ltZ}
 use mir.Syntax.{w32}
 use mir.Val.{SFits}
@@ -33,13 +33,19 @@ use Rattle.inverse.specs.Inverse.{reducedNorthing, inverseOf}
 use Rattle.grid.specs.Grid.{gridOf}
 use Rattle.convert.specs.Conversions.{geographicToPlane, planeToGeographic, convergenceAndScale}
 use Rattle.convert.proofs.Checked.{forward-passes, inverse-passes, grid-passes, after-pass}
-use Rattle.correct.specs.Correction.{fromFirstMinute, hasRow, judgedBy, correctionOf, correctedOf}
-use Rattle.correct.proofs.Place.{row-there}
+use Rattle.judge.specs.Judge.{fromFirstMinute, hasRow, judgedBy}
+use Rattle.correct.specs.Correction.{correctionOf, correctedOf}
+use Rattle.judge.proofs.Place.{row-there}
 use Rattle.correct.proofs.RowWords.{FiguresFit, figures-fit}
 use Rattle.correct.proofs.Rewritten.{minutes-stay, figures-stay, figures-new}
-use Rattle.correct.proofs.Judged.{Kept, zero-keeps, kept-zero, number-is}
+use Rattle.judge.proofs.Kept.{Kept, zero-keeps, kept-zero}
+use Rattle.correct.proofs.Judged.{number-is}
 use Rattle.touched.specs.Touched.{touch, noTouch, hasMinute, rowNamed, nearRow, forwardTouched, abovePrior, belowNext, inverseTouched, geographicTouched, planeTouched}
 use Rattle.touched.proofs.Beside.{two-rows}
+use Rattle.batch.specs.Batch.{pairs, pointAt, wordsOf, taken, batchOf, answersOf}
+use Rattle.batch.proofs.Written.{answer-on-pass, memory-on-pass, point-words}
+use Rattle.door.specs.Door.{countsOf, planeAnswer, geographicAnswer, gridAnswer, toPlane, toGeographic, toGrid}
+use Rattle.door.proofs.Ways.{same-door}
 use Rattle.promises.specs.Corrections.{Passes, Word, Words, putIn, FarLatitude, Corrects, Afresh, Local, Untouched, Demand3, EachRow}
 use Rattle.corrected.proofs.WithRow.{body-long, rows-stay, body-stays, latitude-body}
 use Rattle.corrected.proofs.OtherBytes.{other-bytes}
@@ -189,6 +195,13 @@ module _ (s : List ℕ) (passes : Passes s) (minute : ℤ) (f : Figures) where
           old-figures = λ i h. ap (λ (u : List ℕ). figuresAt (bodyOf u latitude) i) (writes accepted) ∙ old i h;
           forward = λ north west. ap (λ (u : List ℕ). geographicToPlane u north west) (writes accepted) ∙ plane-steps t ok′ north west;
           inverse = λ x y. ap (λ (u : List ℕ). planeToGeographic u x y) (writes accepted) ∙ earth-steps t ok′ x y;
+          grid = λ x y. ap (λ (u : List ℕ). convergenceAndScale u x y) (writes accepted) ∙ grid-steps t ok′ x y;
+          batch-point = λ points i. ap (λ (u : List ℕ). pointAt u points i) (writes accepted) ∙ plane-steps t ok′ (getD points (2 * i) (pos 0)) (getD points (2 * i + 1) (pos 0));
+          batch = λ points old. ap (λ (u : List ℕ). batchOf u points old) (writes accepted) ∙ answer-on-pass t ok′ points old;
+          batch-memory = λ points old. ap (λ (u : List ℕ). answersOf u points old) (writes accepted) ∙ memory-on-pass t ok′ points old;
+          door-plane = λ p. ap (λ (u : List ℕ). toPlane u p) (writes accepted) ∙ same-door (countsOf p) _ _ (λ north west. ap planeAnswer (plane-steps t ok′ north west));
+          door-geographic = λ p. ap (λ (u : List ℕ). toGeographic u p) (writes accepted) ∙ same-door (countsOf p) _ _ (λ x y. ap geographicAnswer (earth-steps t ok′ x y));
+          door-grid = λ p. ap (λ (u : List ℕ). toGrid u p) (writes accepted) ∙ same-door (countsOf p) _ _ (λ x y. ap gridAnswer (grid-steps t ok′ x y));
         }
 
     -- ---- the answers that stay
@@ -204,12 +217,27 @@ module _ (s : List ℕ) (passes : Passes s) (minute : ℤ) (f : Figures) where
         → planeToGeographic (correctedOf s minute f) x y ≡ planeToGeographic s x y
     earth-stays x y apart = afresh .inverse x y ∙ inverse-same s t r beside (there has) ok ok′ x y apart ∙ sym (earth-steps s ok x y)
 
+    -- a batch's word: of a batch that is taken, and of one that is not
+    batch-stays : (points old : List ℤ) (i k : ℕ) → i < pairs points → k < 3 → FarLatitude minute (getD points (2 * i) (pos 0))
+        → getD (answersOf (correctedOf s minute f) points old) (3 * i + k) (pos 0) ≡ getD (answersOf s points old) (3 * i + k) (pos 0)
+    unfolding need
+    batch-stays points old i k l h far = ap (λ (u : List ℕ). getD (answersOf u points old) (3 * i + k) (pos 0)) (writes accepted) ∙ pick (taken (length points) (length old)) refl
+      where
+        same : pointAt t points i ≡ pointAt s points i
+        same = ap (λ (u : List ℕ). pointAt u points i) (sym (writes accepted)) ∙ plane-stays (getD points (2 * i) (pos 0)) (getD points (2 * i + 1) (pos 0)) (λ a b. far)
+
+        pick : (b : Bool) → taken (length points) (length old) ≡ b → getD (answersOf t points old) (3 * i + k) (pos 0) ≡ getD (answersOf s points old) (3 * i + k) (pos 0)
+        pick true e =
+            point-words t ok′ points old e i k l h ∙ ap (λ a. getD (wordsOf a) k (pos 0)) same ∙ sym (point-words s ok points old e i k l h)
+        pick false e = rw (memory-on-pass t ok′ points old, memory-on-pass s ok points old, e)
+
     pub locally : Local s minute f
     locally =
         record {
           forward = λ north west far. plane-stays north west (λ k l. far);
           inverse = λ x y far. earth-stays x y (λ k l. inl (far k l));
           grid = λ x y. ap (λ (u : List ℕ). convergenceAndScale u x y) (writes accepted) ∙ grid-steps t ok′ x y ∙ grid-same s t r beside x y ∙ sym (grid-steps s ok x y);
+          batch = batch-stays;
         }
 
     -- ---- what `touched` says

@@ -6,8 +6,9 @@ use mathlib.Core.List.{List}
 use mathlib.Core.Logic.{_⊎_}
 use Prim.Native.Nat.{ℕ, _+_, _-_, _*_, _<_, _≤_}
 use lib.IntN.{ℤ, pos, negℤ, natAbs, _-ℤ_, _*ℤ_}
-use lib.ListN.{getD}
+use lib.ListN.{length, getD}
 use lib.Signed.{leZ}
+use Rattle.words.specs.Ladder.{need}
 use Rattle.entries.specs.Layout.{latitude, stepOf}
 use Rattle.entries.specs.Entries.{startOf, rowsOf, bodyOf}
 use Rattle.contents.specs.Contents.{verdict}
@@ -18,9 +19,13 @@ use Rattle.tables.specs.Figures.{y0Of}
 use Rattle.extent.specs.Extent.{xPrime, eastingKnown, northingKnown}
 use Rattle.forward.specs.Forward.{forwardOf}
 use Rattle.inverse.specs.Inverse.{reducedNorthing, inverseOf}
+use Rattle.grid.specs.Grid.{gridOf}
 use Rattle.convert.specs.Conversions.{geographicToPlane, planeToGeographic, convergenceAndScale}
 use Rattle.correct.specs.Correction.{correctionOf, withRow, correctedOf}
 use Rattle.touched.specs.Touched.{touch, hasMinute, rowNamed, geographicTouched, planeTouched}
+use Rattle.batch.specs.Batch.{pairs, pointAt, answered, afterPairs, taken, batched, batchOf, answersOf}
+use Rattle.door.specs.declared.Point.{Point}
+use Rattle.door.specs.Door.{countsOf, doorOf, planeAnswer, geographicAnswer, gridAnswer, toPlane, toGeographic, toGrid}
 
 -- "A pass is 0 0 0."
 abbrev pub Passes : List ℕ → Type 0
@@ -72,6 +77,17 @@ pub record Afresh (s : List ℕ) (minute : ℤ) (f : Figures) : Type 0 where
   -- "the answers must be those worked afresh": each conversion is the Survey's steps on the corrected sheet.
   pub forward : (north west : ℤ) → geographicToPlane (correctedOf s minute f) north west ≡ forwardOf (putIn s minute f) north west
   pub inverse : (x y : ℤ) → planeToGeographic (correctedOf s minute f) x y ≡ inverseOf (putIn s minute f) x y
+  pub grid : (x y : ℤ) → convergenceAndScale (correctedOf s minute f) x y ≡ gridOf (putIn s minute f) x y
+  -- So is each point of a batch, which 17 alone can refuse.
+  pub batch-point : (points : List ℤ) (i : ℕ) → pointAt (correctedOf s minute f) points i ≡ forwardOf (putIn s minute f) (getD points (2 * i) (pos 0)) (getD points (2 * i + 1) (pos 0))
+  pub batch : (points old : List ℤ)
+      → batchOf (correctedOf s minute f) points old ≡ need (taken (length points) (length old)) (batched 17 0) (batched 0 (answered (putIn s minute f) points (pairs points)))
+  pub batch-memory : (points old : List ℤ)
+      → answersOf (correctedOf s minute f) points old ≡ need (taken (length points) (length old)) old (afterPairs (putIn s minute f) points (pairs points) old)
+  -- And so is what the tools' door tells, which 15 comes before.
+  pub door-plane : (p : Point) → toPlane (correctedOf s minute f) p ≡ doorOf (countsOf p) (λ north west. planeAnswer (forwardOf (putIn s minute f) north west))
+  pub door-geographic : (p : Point) → toGeographic (correctedOf s minute f) p ≡ doorOf (countsOf p) (λ x y. geographicAnswer (inverseOf (putIn s minute f) x y))
+  pub door-grid : (p : Point) → toGrid (correctedOf s minute f) p ≡ doorOf (countsOf p) (λ x y. gridAnswer (gridOf (putIn s minute f) x y))
 
 pub record Local (s : List ℕ) (minute : ℤ) (f : Figures) : Type 0 where
   -- "no point outside the two intervals beside that row changes": the whole answer, refusals included.
@@ -79,6 +95,9 @@ pub record Local (s : List ℕ) (minute : ℤ) (f : Figures) : Type 0 where
   pub inverse : (x y : ℤ) → FarPlane s minute x y → planeToGeographic (correctedOf s minute f) x y ≡ planeToGeographic s x y
   -- Convergence and scale never change.
   pub grid : (x y : ℤ) → convergenceAndScale (correctedOf s minute f) x y ≡ convergenceAndScale s x y
+  -- A batch's three words for a point i outside the two intervals: word k of them is as before.
+  pub batch : (points old : List ℤ) (i k : ℕ) → i < pairs points → k < 3 → FarLatitude minute (getD points (2 * i) (pos 0))
+      → getD (answersOf (correctedOf s minute f) points old) (3 * i + k) (pos 0) ≡ getD (answersOf s points old) (3 * i + k) (pos 0)
 
 -- "Which of my four thousand points do I redo?" Where the answer is no, the point's answer is as before; and the question may be put to the old sheet or to the new.
 pub record Untouched (s : List ℕ) (minute : ℤ) (f : Figures) : Type 0 where

@@ -11,8 +11,8 @@ use Rattle.entries.specs.Layout.{latitude, widthOf}
 use Rattle.entries.specs.Entries.{bodyOf, placeOf}
 use Rattle.bodies.specs.Check.{checkOf}
 use Rattle.tables.proofs.Parts.{contents-none, cut}
-use Rattle.correct.specs.Correction.{namedRow, hasRow}
-use Rattle.correct.proofs.Judged.{lent-rows}
+use Rattle.judge.specs.Judge.{namedRow, hasRow}
+use Rattle.judge.proofs.Lent.{lent-rows}
 use Rattle.touched.specs.Touched.{hasMinute, rowNamed}
 
 module _ (s : List ℕ) (p : Place) (width : ℕ) (e : p ≡ placeOf s latitude) (w : width ≡ widthOf latitude) where

@@ -14,7 +14,7 @@ use Rattle.tables.specs.Figures.{y0Of}
 use Rattle.extent.specs.Extent.{latitudeKnown, longitudeKnown, xPrime, eastingKnown, northingKnown}
 use Rattle.inverse.specs.Inverse.{reducedNorthing}
 use Rattle.convert.specs.Conversions.{afterCheck}
-use Rattle.correct.specs.Correction.{namedRow, hasRow}
+use Rattle.judge.specs.Judge.{namedRow, hasRow}
 use Rattle.touched.specs.declared.Touch.{Touch}
 
 -- The answer: a number, and whether the point's answer may change. Where the number is not 0 the question is refused: then `touched` is false, and says nothing of the point.

@@ -26,7 +26,7 @@ fn has_minute(s: &[u8], place: Place, minute: i32) -> bool
     let w = entries::width_of(entries::LATITUDE);
     let a = 4 * place.start;
     let z = a + 4 * (n * w);
-    correct::has_row(&s[a..z], n, minute)
+    judge::has_row(&s[a..z], n, minute)
 }
 
 // The latitude row with the minute, which the sheet has.
@@ -38,7 +38,7 @@ fn row_named(s: &[u8], place: Place, minute: i32) -> usize
     let w = entries::width_of(entries::LATITUDE);
     let a = 4 * place.start;
     let z = a + 4 * (n * w);
-    correct::named_row(&s[a..z], n, minute)
+    judge::named_row(&s[a..z], n, minute)
 }
 
 // Whether the latitude lies less than a minute from the row's.

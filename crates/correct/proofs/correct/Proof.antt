@@ -8,7 +8,8 @@ use Rattle.entries.specs.Layout.{latitude}
 use Rattle.contents.specs.Contents.{numberOf, contentsOf}
 use Rattle.bodies.proofs.Parts.{long-enough, part-within, part-some, words-fit, start-fits, bytes-fit, end-fits}
 use Rattle.correct.specs.Correction.{figures}
-use Rattle.correct.proofs.Judged.{contents-refuse, lent-rows, sheet-number, sheet-after}
+use Rattle.judge.proofs.Lent.{lent-rows}
+use Rattle.correct.proofs.Judged.{contents-refuse, sheet-number, sheet-after}
 use borrow.Author.Needs.{needs}
 use Rattle.correct.proofs.correct.Statement.{statement}
 use Rattle.correct.proofs.correct.Tie as tie

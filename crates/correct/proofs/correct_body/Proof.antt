@@ -5,8 +5,9 @@ use lib.IntN.{ℤ}
 use denote.Ref.{now}
 use mir.Syntax.{w32}
 use mir.Val.{toZ, ofZ}
-use Rattle.correct.specs.Correction.{namedRow, hasRow, boundBefore, boundAfter, judgedBy}
-use Rattle.correct.proofs.Judged.{Kept, refused-stays, accepted-keeps, accepted-writes}
+use Rattle.judge.specs.Judge.{namedRow, hasRow, boundBefore, boundAfter, judgedBy}
+use Rattle.judge.proofs.Kept.{Kept}
+use Rattle.correct.proofs.Judged.{refused-stays, accepted-keeps, accepted-writes}
 use borrow.Author.Needs.{needs}
 use Rattle.correct.proofs.correct_body.Statement.{statement}
 use Rattle.correct.proofs.correct_body.Tie as tie

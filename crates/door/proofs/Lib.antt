@@ -1,0 +1,3 @@
+-- Laws of the tools' door: its ways out, and what an answer tells.
+pub mod Ways
+pub mod Told

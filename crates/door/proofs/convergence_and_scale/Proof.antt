@@ -1,0 +1,55 @@
+-- `door::convergence_and_scale` meets its contract: 15 before the sheet, and after it what the conversion answers; then what the match and each call ask. Assumes nothing.
+use mathlib.Core.Path.{_≡_, sym, _∙_}
+use mir.Syntax.{w32}
+use mir.Val.{toZ, ofZ}
+use borrow.Author.Needs.{needs}
+use Rattle.convert.specs.Conversions.{convergenceAndScale}
+use Rattle.figures.proofs.Bits.{both-same}
+use Rattle.door.specs.Door.{answerOf, gridAnswer}
+use Rattle.door.proofs.Ways.{before, after}
+use Rattle.door.proofs.convergence_and_scale.Statement.{statement}
+use Rattle.door.proofs.convergence_and_scale.Tie as tie
+
+returns : tie.Need-returns
+returns c = before _ _ (sym (c .before .before .counts-of .ensures) ∙ c .enum-told .given .1)
+
+returns-2 : tie.Need-returns-2
+returns-2 c =
+    let worked = c .before .before .before in
+    let r = worked .convergence-and-scale .result in
+    let pair = worked .before .before in
+    let a = pair .x .given .0 .0 in
+    let b = pair .x .given .0 .1 .0 in
+    let a-is : toZ w32 (ofZ w32 a) ≡ a = search needs in
+    let b-is : toZ w32 (ofZ w32 b) ≡ b = search needs in
+    let one : toZ w32 (ofZ w32 (r .convergence)) ≡ r .convergence = search needs in
+    let two : toZ w32 (ofZ w32 (r .scale)) ≡ r .scale = search needs in
+    let told = c .answer-of .ensures ∙ both-same (answerOf _) one two in
+    after (convergenceAndScale _) gridAnswer _ _ (sym (pair .before .before .counts-of .ensures) ∙ pair .x .given .1) a-is b-is (worked .convergence-and-scale .ensures) told
+
+counts-of-requires : tie.Need-counts-of-requires
+counts-of-requires c κs = search needs
+
+enum-known-x : tie.Need-enum-known-x
+enum-known-x c = search needs
+
+enum-told : tie.Need-enum-told
+enum-told c = search needs
+
+convergence-and-scale-requires : tie.Need-convergence-and-scale-requires
+convergence-and-scale-requires c κs = search needs
+
+answer-of-requires : tie.Need-answer-of-requires
+answer-of-requires c κs = search needs
+
+pub convergence-and-scale-spec : {M : Type 1} → statement M
+convergence-and-scale-spec =
+    tie.close
+    (tie.spec
+    counts-of-requires
+    enum-known-x
+    enum-told
+    returns
+    convergence-and-scale-requires
+    answer-of-requires
+    returns-2)

@@ -1,0 +1,55 @@
+-- `door::plane_to_geographic` meets its contract: 15 before the sheet, and after it what the conversion answers; then what the match and each call ask. Assumes nothing.
+use mathlib.Core.Path.{_≡_, sym, _∙_}
+use mir.Syntax.{w32}
+use mir.Val.{toZ, ofZ}
+use borrow.Author.Needs.{needs}
+use Rattle.convert.specs.Conversions.{planeToGeographic}
+use Rattle.figures.proofs.Bits.{both-same}
+use Rattle.door.specs.Door.{answerOf, geographicAnswer}
+use Rattle.door.proofs.Ways.{before, after}
+use Rattle.door.proofs.plane_to_geographic.Statement.{statement}
+use Rattle.door.proofs.plane_to_geographic.Tie as tie
+
+returns : tie.Need-returns
+returns c = before _ _ (sym (c .before .before .counts-of .ensures) ∙ c .enum-told .given .1)
+
+returns-2 : tie.Need-returns-2
+returns-2 c =
+    let worked = c .before .before .before in
+    let r = worked .plane-to-geographic .result in
+    let pair = worked .before .before in
+    let a = pair .x .given .0 .0 in
+    let b = pair .x .given .0 .1 .0 in
+    let a-is : toZ w32 (ofZ w32 a) ≡ a = search needs in
+    let b-is : toZ w32 (ofZ w32 b) ≡ b = search needs in
+    let one : toZ w32 (ofZ w32 (r .latitude)) ≡ r .latitude = search needs in
+    let two : toZ w32 (ofZ w32 (r .longitude)) ≡ r .longitude = search needs in
+    let told = c .answer-of .ensures ∙ both-same (answerOf _) one two in
+    after (planeToGeographic _) geographicAnswer _ _ (sym (pair .before .before .counts-of .ensures) ∙ pair .x .given .1) a-is b-is (worked .plane-to-geographic .ensures) told
+
+counts-of-requires : tie.Need-counts-of-requires
+counts-of-requires c κs = search needs
+
+enum-known-x : tie.Need-enum-known-x
+enum-known-x c = search needs
+
+enum-told : tie.Need-enum-told
+enum-told c = search needs
+
+plane-to-geographic-requires : tie.Need-plane-to-geographic-requires
+plane-to-geographic-requires c κs = search needs
+
+answer-of-requires : tie.Need-answer-of-requires
+answer-of-requires c κs = search needs
+
+pub plane-to-geographic-spec : {M : Type 1} → statement M
+plane-to-geographic-spec =
+    tie.close
+    (tie.spec
+    counts-of-requires
+    enum-known-x
+    enum-told
+    returns
+    plane-to-geographic-requires
+    answer-of-requires
+    returns-2)

@@ -1,0 +1,2 @@
+-- The definitions by which a correction is judged.
+pub mod Judge

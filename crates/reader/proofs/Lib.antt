@@ -1,0 +1,2 @@
+-- Laws of the reader of contents: its ways out.
+pub mod Reading

@@ -1,0 +1,2 @@
+-- The definitions of the reader of contents.
+pub mod Read

@@ -1,0 +1,24 @@
+-- What the reader of contents reads: "each three words: kind, start (a word number), rows". s is the sheet.
+use mathlib.Core.List.{List}
+use Prim.Native.Nat.{ℕ, _+_, _*_}
+use lib.Dec.{leb, ltb}
+use lib.ListN.{length}
+use Rattle.words.specs.Words.{unsignedAt}
+use Rattle.words.specs.Ladder.{need}
+use Rattle.entries.specs.Layout.{entryCount, entryWords}
+use Rattle.entries.specs.Entries.{kindAt, startAt, rowsAt}
+use Rattle.reader.specs.declared.Entry.{Entry}
+use Rattle.reader.specs.declared.Entry.the-variants.{Of, End}
+
+-- The entry whose first word is at the place, any word of the sheet. The end where the sheet has no three words there.
+unfoldable pub entryAt : List ℕ → ℕ → Entry
+entryAt s place =
+    need (leb (4 * (place + entryWords)) (length s)) End
+    (Of (unsignedAt s place) (unsignedAt s (place + 1)) (unsignedAt s (place + 2)))
+
+-- "Six entries follow": entry e, counted from 0, by the words that the check reads. The end past the last, and where the sheet has no three words there.
+unfoldable pub entryNumbered : List ℕ → ℕ → Entry
+entryNumbered s e =
+    need (ltb e entryCount) End
+    (need (leb (4 * (entryWords * e + 1 + entryWords)) (length s)) End
+    (Of (kindAt s e) (startAt s e) (rowsAt s e)))
