@@ -2,6 +2,7 @@
 use mathlib.Core.Path.{_≡_, refl, sym, ap, _∙_}
 use mathlib.Core.List.{List, [], _∷_, _++_}
 use Prim.Native.Nat.{ℕ, zero, suc, _+_, _-_, _*_, _/_, _%_, _^_, _≤_, _<_}
+use native.Mathlib.Nat.{le-antisymm}
 use native.Mathlib.Numerals.{add-one}
 use native.Mathlib.Omega.{arith}
 use mathlib.Core.Bool.{true, false}
@@ -11,6 +12,7 @@ use lib.Signed.{ltZ}
 use lib.ListN.{length, set, length-append}
 use lib.Seq.{sets, set-comm}
 use Rattle.words.proofs.Refusals.{below, beyond}
+use Rattle.decimal.specs.Placed.{Placed}
 use Rattle.decimal.proofs.DigitsRead.{powers}
 use Rattle.decimal.specs.Writing.{placesFrom, places, spelled, sizeText, numberText, Wrote}
 
@@ -42,6 +44,27 @@ pub none-left : (l : List ℕ) (at v : ℕ) → sets l at (spelled 0 v) ≡ l
 unfolding spelled
 none-left l at v = refl
 
+-- tens and units of the last two digits
+tens : (v : ℕ) → v / 10 ≡ 10 * (v / 100) + v % 100 / 10
+tens v = le-antisymm (omega arith) (omega arith)
+
+tens-last : (v : ℕ) → v % 100 / 10 ≡ v / 10 % 10
+tens-last v = le-antisymm (omega (arith, tens v)) (omega (arith, tens v))
+
+hundreds : (v : ℕ) → v / 100 ≡ v / 10 / 10
+hundreds v = le-antisymm (omega (arith, tens v)) (omega (arith, tens v))
+
+-- two digits at a time
+pub last-two-first : (l : List ℕ) (at k v : ℕ) → sets (set (set l (at + k + 1) (48 + v % 100 % 10)) (at + k) (48 + v % 100 / 10)) at (spelled k (v / 100)) ≡ sets l at (spelled (k + 2) v)
+last-two-first l at k v =
+    let a : at + k + 1 ≡ at + (k + 1) = omega arith in
+    let b : v % 100 % 10 ≡ v % 10 = omega (arith, tens v) in
+    let e : k + 1 + 1 ≡ k + 2 = omega arith in
+    rw (a, b, tens-last v, hundreds v) (last-first (set l (at + (k + 1)) (48 + v % 10)) at k (v / 10) ∙ rw e at (last-first l at (k + 1) v))
+
+pub last-one-first : (l : List ℕ) (at v : ℕ) → set l at (48 + v % 10) ≡ sets l at (spelled 1 v)
+last-one-first l at v = let a : at + 0 ≡ at = omega arith in rw (a, none-left) at (last-first l at 0 v)
+
 -- ---- how many digits there are
 module _ (left limit k v : ℕ) where
   pub enough : v < limit → k ≡ placesFrom (left + 1) limit k v
@@ -51,12 +74,6 @@ module _ (left limit k v : ℕ) where
   pub one-more-place : limit ≤ v → placesFrom left (10 * limit) (k + 1) v ≡ placesFrom (left + 1) limit k v
   unfolding placesFrom
   one-more-place h = rw (add-one left) (beyond v limit k (placesFrom left (10 * limit) (k + 1) v) (placesFrom left (10 * limit) (k + 1) v) h refl)
-
--- k places are not enough, up to here, and `limit` is the least number that has more
-pub record Placed (v k limit : ℕ) : Type 0 where
-  pub same : placesFrom (20 - k) limit k v ≡ places v
-  pub power : limit ≡ 10 ^ k
-  pub most : k ≤ 19
 
 pub one-place : (v : ℕ) → Placed v 1 10
 unfolding places
@@ -84,6 +101,14 @@ module _ (v k limit : ℕ) (p : Placed v k limit) where
   last-place l h =
       let e : k ≡ 19 = omega (arith, p .most, l) in
       one-more-place 0 limit 19 v h ∙ rw e at (p .same)
+
+pub six-places : (v : ℕ) → 100_000 ≤ v → Placed v 6 1_000_000
+six-places v h =
+    let two = next-place v 1 10 (one-place v) (omega arith) (omega (arith, h)) in
+    let three = next-place v 2 100 two (omega arith) (omega (arith, h)) in
+    let four = next-place v 3 1_000 three (omega arith) (omega (arith, h)) in
+    let five = next-place v 4 10_000 four (omega arith) (omega (arith, h)) in
+    next-place v 5 100_000 five (omega arith) h
 
 pub length-size : (v k : ℕ) → k ≡ places v → length (sizeText v) ≡ k
 unfolding sizeText

@@ -2,10 +2,12 @@
 ghost use mathlib.Core.Path.{_≡_};
 ghost use mathlib.Core.List.{_∷_, []};
 ghost use Prim.Native.Nat.{_+_, _-_, _^_, _≤_, _<_};
+ghost use lib.Dec.{leb};
 ghost use lib.ListN.{length, drop, getD};
 ghost use lib.Seq.{sets};
 ghost use Rattle.decimal.specs.Reading.{digitOf, minusOf, digitsOf, signed, numberOf};
 ghost use Rattle.decimal.specs.Writing.{places, spelled, sizeText, numberText, Wrote};
+ghost use Rattle.decimal.specs.Placed.{Placed};
 
 // Digits that were read: how many, and their value. None have count 0.
 pub struct Digits {
@@ -35,39 +37,60 @@ pub fn byte_at(s: &[u8], i: usize) -> u8
     0
 }
 
-// The digit that a byte stands for, or 10.
-fn digit_of(b: u8) -> u64
-    ensures { λ r. ⌜ (r ≡ digitOf b) × (r ≤ 10) ⌝ }
+// Whether a byte is a digit.
+fn is_digit(b: u8) -> bool
+    ensures { λ r. ⌜ r ≡ leb (digitOf b) 9 ⌝ }
 {
-    if b < b'0' {
-        return 10;
-    }
-    if b'9' < b {
-        return 10;
-    }
+    (b'0' <= b) & (b <= b'9')
+}
+
+// The digit that a byte stands for.
+fn digit_of(b: u8) -> u64
+    requires { ⌜ digitOf b ≤ 9 ⌝ }
+    ensures { λ r. ⌜ (r ≡ digitOf b) × (r ≤ 9) ⌝ }
+{
     (b - b'0') as u64
+}
+
+// Where the digits from `at` on end at the latest: ten bytes on, or where n bytes end.
+fn last_place(at: usize, n: usize) -> usize
+    requires { ⌜ at ≤ n ⌝ }
+    ensures { λ r. ⌜ (at ≤ r) × (r ≤ n) × (r ≤ at + 10) × ((r < n) → r ≡ at + 10) ⌝ }
+{
+    if n - at < MOST_DIGITS {
+        return n;
+    }
+    at + MOST_DIGITS
 }
 
 // The digits from `at` on, one to ten of them.
 fn digits_at(s: &[u8], at: usize) -> Digits
     ensures { λ r. ⌜ (r ≡ digitsOf (drop at (now (s .entry)))) × (r .count ≤ 10) × (r .value < 10 ^ 10) ⌝ }
 {
+    if s.len() < at {
+        return Digits { count: 0, value: 0 };
+    }
+    let end = last_place(at, s.len());
     let mut i = at;
-    let mut count = 0;
     let mut value: u64 = 0;
-    while i < s.len() {
-        let digit = digit_of(s[i]);
-        if 9 < digit {
-            return Digits { count, value };
+    while i < end {
+        let b = s[i];
+        if !is_digit(b) {
+            return Digits {
+                count: i - at,
+                value,
+            };
         }
-        if count == MOST_DIGITS {
-            return Digits { count: 0, value: 0 };
-        }
-        value = 10 * value + digit;
-        count += 1;
+        value = 10 * value + digit_of(b);
         i += 1;
     }
-    Digits { count, value }
+    if is_digit(byte_at(s, i)) {
+        return Digits { count: 0, value: 0 }; // more than ten
+    }
+    Digits {
+        count: i - at,
+        value,
+    }
 }
 
 // 1 where a minus stands at `at`, else 0.
@@ -117,12 +140,13 @@ pub fn number_at(s: &[u8], at: usize) -> Number
 
 // ---- writing
 
-// How many digits v has.
-fn places_of(v: u64) -> usize
+// How many digits v has, which has k or more.
+fn places_from(v: u64, least: usize, power: u64) -> usize
+    requires { ⌜ Placed v least power ⌝ }
     ensures { λ r. ⌜ (r ≡ places v) × (r ≤ 20) ⌝ }
 {
-    let mut k = 1;
-    let mut limit: u64 = 10;
+    let mut k = least;
+    let mut limit = power;
     while k < 19 {
         if v < limit {
             return k;
@@ -136,17 +160,31 @@ fn places_of(v: u64) -> usize
     20
 }
 
-// The last k digits of v, written from `at` on.
+// How many digits v has. Most numbers of a point have more than five.
+fn places_of(v: u64) -> usize
+    ensures { λ r. ⌜ (r ≡ places v) × (r ≤ 20) ⌝ }
+{
+    if v < 100_000 {
+        return places_from(v, 1, 10);
+    }
+    places_from(v, 6, 1_000_000)
+}
+
+// The last k digits of v, written from `at` on, two at a time from the last back.
 fn spell(out: &mut [u8], at: usize, v: u64, k: usize)
     requires { ⌜ at + k ≤ length (now out) ⌝ }
     ensures { λ _. ⌜ now (out .exit) ≡ sets (now (out .entry)) at (spelled k v) ⌝ }
 {
     let mut i = k;
     let mut rest = v;
-    while 0 < i {
-        i -= 1;
-        out[at + i] = b'0' + (rest % 10) as u8;
-        rest = rest / 10;
+    while 1 < i {
+        i -= 2;
+        out[at + i + 1] = b'0' + (rest % 100 % 10) as u8;
+        out[at + i] = b'0' + (rest % 100 / 10) as u8;
+        rest = rest / 100;
+    }
+    if 0 < i {
+        out[at] = b'0' + (rest % 10) as u8;
     }
 }
 

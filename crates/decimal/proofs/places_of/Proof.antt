@@ -1,60 +1,20 @@
 -- `decimal::places_of` meets its contract. Assumes nothing.
+use Rattle.decimal.proofs.Spelling.{one-place, six-places}
 use borrow.Author.Needs.{needs}
-use mathlib.Core.Path.{_≡_, _∙_}
-use Prim.Native.Nat.{_-_}
-use native.Mathlib.Omega.{arith}
-use lib.Dec.{lit≤}
-use Rattle.decimal.proofs.Spelling.{Placed, one-place, limit-small, placed, next-place, last-place}
 use Rattle.decimal.proofs.places_of.Statement.{statement}
 use Rattle.decimal.proofs.places_of.Tie as tie
 
-abbrev Inv-loop : tie.InvT-loop
-Inv-loop v k₀ limit₀ k limit = Placed v k limit
+places-from-requires : tie.Need-places-from-requires
+places-from-requires c κs = one-place _
 
-abbrev μ-loop : tie.MeasureT-loop
-μ-loop v k₀ limit₀ k limit = 19 - k
+returns : tie.Need-returns
+returns c = search needs
 
--- ---- what it answers
-returns : tie.Need-returns Inv-loop μ-loop
-returns c = let p = c .before .before .loop .inv in (placed _ _ _ p (c .if1 .taken), omega (arith, p .most))
+places-from-requires-2 : tie.Need-places-from-requires-2
+places-from-requires-2 c κs = six-places _ (c .if1 .left)
 
-returns-2 : tie.Need-returns-2 Inv-loop μ-loop
-returns-2 c =
-    let l = c .before .before .loop in
-    let e : 19 ≡ l .k = omega (arith, l .inv .most) in
-    (e ∙ placed _ _ _ (l .inv) (c .if2 .taken), lit≤ tt)
-
-returns-3 : tie.Need-returns-3 Inv-loop μ-loop
-returns-3 c = (last-place _ _ _ (c .before .before .loop .inv) (omega arith) (c .if2 .left), lit≤ tt)
-
--- ---- what its loop keeps
-loop-holds : tie.Need-loop-holds Inv-loop μ-loop
-loop-holds c = one-place _
-
-loop-again : tie.Need-loop-again Inv-loop μ-loop
-loop-again c = next-place _ _ _ (c .before .before .loop .inv) (omega arith) (c .if1 .left)
-
-loop-less : tie.Need-loop-less Inv-loop μ-loop
-loop-less c = search needs
-
--- ---- what its operations ask
-mul-limit : tie.Need-mul-limit Inv-loop μ-loop
-mul-limit c = record { fits = limit-small _ _ _ (c .before .before .loop .inv) (omega arith) }
-
-add-k : tie.Need-add-k Inv-loop μ-loop
-add-k c = search needs
+returns-2 : tie.Need-returns-2
+returns-2 c = search needs
 
 pub places-of-spec : {M : Type 1} → statement M
-places-of-spec =
-    tie.close
-    (tie.spec
-    Inv-loop
-    μ-loop
-    loop-holds
-    returns
-    mul-limit
-    add-k
-    loop-less
-    loop-again
-    returns-2
-    returns-3)
+places-of-spec = tie.close (tie.spec places-from-requires returns places-from-requires-2 returns-2)

@@ -1,12 +1,12 @@
 -- `decimal::spell` meets its contract: with i digits left to store, those left give the memory that all of them give. Assumes nothing.
 use borrow.Author.Needs.{needs}
 use mathlib.Core.Path.{_≡_, refl, _∙_}
-use Prim.Native.Nat.{_+_, _-_, _%_, _≤_}
+use Prim.Native.Nat.{_+_, _-_, _/_, _%_, _≤_}
 use native.Mathlib.Omega.{arith}
-use lib.ListN.{length, length-set}
+use lib.ListN.{length, set, length-set}
 use lib.Seq.{sets}
 use Rattle.decimal.specs.Writing.{spelled}
-use Rattle.decimal.proofs.Spelling.{last-first, none-left}
+use Rattle.decimal.proofs.Spelling.{last-two-first, last-one-first, none-left}
 use Rattle.decimal.proofs.spell.Statement.{statement}
 use Rattle.decimal.proofs.spell.Tie as tie
 
@@ -22,7 +22,16 @@ same-length c = search needs
 
 returns : tie.Need-returns Inv-loop μ-loop
 returns c =
-    let l = c .before .loop in
+    let l = c .before .before .loop in
+    let e : l .i ≡ 1 = omega arith in
+    last-one-first _ _ _ ∙ rw e at (l .inv .2)
+
+same-length-2 : tie.Need-same-length-2 Inv-loop μ-loop
+same-length-2 c = search needs
+
+returns-2 : tie.Need-returns-2 Inv-loop μ-loop
+returns-2 c =
+    let l = c .before .before .loop in
     let e : l .i ≡ 0 = omega arith in
     rw (e, none-left) at (l .inv .2)
 
@@ -34,8 +43,11 @@ loop-again : tie.Need-loop-again Inv-loop μ-loop
 loop-again c =
     let l = c .before .loop in
     let a = c .before .before .args in
-    let e : l .i - 1 + 1 ≡ l .i = omega arith in
-    (search needs, length-set (l .out) (a .at + (l .i - 1)) (48 + l .rest % 10) ∙ l .inv .1, last-first (l .out) (a .at) (l .i - 1) (l .rest) ∙ rw e (l .inv .2))
+    let e : l .i - 2 + 2 ≡ l .i = omega arith in
+    let units = set (l .out) (a .at + (l .i - 2) + 1) (48 + l .rest % 100 % 10) in
+    let u = length-set units (a .at + (l .i - 2)) (48 + l .rest % 100 / 10) in
+    let t = length-set (l .out) (a .at + (l .i - 2) + 1) (48 + l .rest % 100 % 10) in
+    (search needs, u ∙ t ∙ l .inv .1, last-two-first (l .out) (a .at) (l .i - 2) (l .rest) ∙ rw e (l .inv .2))
 
 loop-less : tie.Need-loop-less Inv-loop μ-loop
 loop-less c = search needs
@@ -53,8 +65,32 @@ add-out c = search needs
 add-out-2 : tie.Need-add-out-2 Inv-loop μ-loop
 add-out-2 c = search needs
 
+add-out-3 : tie.Need-add-out-3 Inv-loop μ-loop
+add-out-3 c = search needs
+
 slice-write-out : tie.Need-slice-write-out Inv-loop μ-loop
 slice-write-out c = search needs
+
+cast-out-2 : tie.Need-cast-out-2 Inv-loop μ-loop
+cast-out-2 c = search needs
+
+add-out-4 : tie.Need-add-out-4 Inv-loop μ-loop
+add-out-4 c = search needs
+
+add-out-5 : tie.Need-add-out-5 Inv-loop μ-loop
+add-out-5 c = search needs
+
+slice-write-out-2 : tie.Need-slice-write-out-2 Inv-loop μ-loop
+slice-write-out-2 c = simp length-set (omega arith)
+
+cast-out-3 : tie.Need-cast-out-3 Inv-loop μ-loop
+cast-out-3 c = search needs
+
+add-out-6 : tie.Need-add-out-6 Inv-loop μ-loop
+add-out-6 c = search needs
+
+slice-write-out-3 : tie.Need-slice-write-out-3 Inv-loop μ-loop
+slice-write-out-3 c = search needs
 
 pub spell-spec : {M : Type 1} → statement M
 spell-spec =
@@ -67,8 +103,18 @@ spell-spec =
     cast-out
     add-out
     add-out-2
+    add-out-3
     slice-write-out
+    cast-out-2
+    add-out-4
+    add-out-5
+    slice-write-out-2
     loop-less
     loop-again
+    cast-out-3
+    add-out-6
+    slice-write-out-3
     same-length
-    returns)
+    returns
+    same-length-2
+    returns-2)
