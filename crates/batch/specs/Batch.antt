@@ -35,7 +35,7 @@ unfoldable pub answered : List ℕ → List ℤ → ℕ → ℕ
 answered s points zero = 0
 answered s points (suc n) = answered s points n + oneIfAnswered (pointAt s points n .number)
 
--- 17: "odd batch, over 4,096 points, or too little room for answers"
+-- False exactly where 17 is due: "odd batch, over 4,096 points, or too little room for answers".
 unfoldable pub taken : ℕ → ℕ → Bool
 taken given room = eqb (given % 2) 0 && leb (given / 2) 4_096 && leb (3 * (given / 2)) room
 

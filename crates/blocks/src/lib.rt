@@ -5,7 +5,7 @@ ghost use Prim.Native.Nat.{_+_, _≤_};
 ghost use lib.ListN.{length};
 ghost use Rattle.entries.specs.Entries.{placesOf};
 ghost use Rattle.bodies.specs.Check.{checkOf};
-ghost use Rattle.lines.specs.Lines.{mostBytes};
+ghost use Rattle.lines.specs.Lines.{lineRoom};
 ghost use Rattle.blocks.specs.Blocks.{Answered};
 
 // How far the lines are answered: the place in the input behind the last of them, the place in the output behind its answer, and whether there is too little room
@@ -27,7 +27,7 @@ pub fn answer_lines(
     out: &mut [u8],
     at: usize,
 ) -> Done
-    requires { ⌜ (checkOf (now s) .number ≡ 0) × (p ≡ placesOf (now s)) × (from ≤ length (now input)) × (at + mostBytes ≤ length (now out)) ⌝ }
+    requires { ⌜ (checkOf (now s) .number ≡ 0) × (p ≡ placesOf (now s)) × (from ≤ length (now input)) × (at + lineRoom ≤ length (now out)) ⌝ }
     ensures { λ r. ⌜ Answered (now (s .entry)) (now (input .entry)) from (now (out .entry)) (now (out .exit)) at r ⌝ }
 {
     let mut i = from;
@@ -43,7 +43,7 @@ pub fn answer_lines(
         }
         o = lines::answer(s, p, &input[i..end], out, o);
         i = end + 1;
-        if out.len() - o < lines::MOST_BYTES {
+        if out.len() - o < lines::LINE_ROOM {
             return Done {
                 read: i,
                 written: o,

@@ -11,7 +11,7 @@ use Rattle.counts.specs.declared.Whole.the-variants.{Count, No}
 abbrev pub mostCount : ℕ
 mostCount = 2_147_483_647
 
--- A count as an f64, which holds it as it is.
+-- A count as an f64, which holds a 32-bit one as it is.
 abbrev pub float : ℤ → Float
 float n = ofInt binary64 n
 

@@ -1,12 +1,13 @@
 -- A size with a minus or none is a number of 32 bits exactly where the size is at most 2,147,483,647, and one more after a minus. Assumes nothing.
 use mathlib.Core.Path.{_≡_, refl}
-use mathlib.Core.Bool.{Bool, true, false}
+use mathlib.Core.Bool.{Bool, true, false, cond}
 use mathlib.Core.List.{List}
 use Prim.Native.Nat.{ℕ, zero, suc, _+_, _≤_, _<_}
 use native.Mathlib.Omega.{arith}
-use borrow.Author.Tests.{le-leb, lt-leb, lt-ltb}
+use borrow.Author.Tests.{le-leb, lt-leb, lt-ltb, leb-true}
 use lib.IntN.{pos, negℤ}
-use lib.ListN.{drop}
+use lib.Dec.{leb, ltb, eqb}
+use lib.ListN.{drop, getD}
 use lib.Seq.{drop-drop}
 use mir.Syntax.{w32}
 use mir.Val.{SFits}
@@ -14,7 +15,7 @@ use Rattle.words.specs.Ladder.{need}
 use Rattle.rules.specs.Limits.{inRange}
 use Rattle.decimal.specs.declared.Digits.{Digits}
 use Rattle.decimal.specs.declared.Number.{Number}
-use Rattle.decimal.specs.Reading.{digitsOf, minusOf, number, noNumber, signedValue, signed, numberOf}
+use Rattle.decimal.specs.Reading.{digitCount, valueAfter, digits, digitsOf, minusOf, number, noNumber, signedValue, signed, numberOf}
 
 abbrev fits : ℕ → ℕ → Bool
 fits minus value = inRange (negℤ (pos 2_147_483_648)) (signedValue minus value) (pos 2_147_483_647)
@@ -75,3 +76,35 @@ minus-held (suc n) h = record { sfits = omega arith }
 pub number-is : (s : List ℕ) (at minus : ℕ) (d : Digits) (r : Number) → minus ≡ minusOf (drop at s) → d ≡ digitsOf (drop (at + minus) s) → r ≡ signed minus (d .count) (d .value) → r ≡ numberOf (drop at s)
 unfolding numberOf
 number-is s at minus d r m e h = rw (← m, drop-drop minus at s, ← e) h
+
+-- ---- how long it can be
+digits-most : (s : List ℕ) → digitsOf s .count ≤ 10
+unfolding digitsOf
+digits-most s = go (leb (digitCount s) 10) refl
+  where
+    go : (t : Bool) → leb (digitCount s) 10 ≡ t → cond t (digits (digitCount s) (valueAfter 0 s)) (digits 0 0) .count ≤ 10
+    go true t = leb-true (digitCount s) 10 t
+    go false t = omega arith
+
+minus-most : (s : List ℕ) → minusOf s ≤ 1
+unfolding minusOf
+minus-most s = go (eqb (getD s 0 0) 45)
+  where
+    go : (t : Bool) → cond t 1 0 ≤ 1
+    go true = omega arith
+    go false = omega arith
+
+signed-most : (minus count value : ℕ) → signed minus count value .length ≤ minus + count
+unfolding signed need
+signed-most minus count value = go (ltb 0 count) (fits minus value)
+  where
+    go : (t u : Bool) → need t noNumber (need u noNumber (number (minus + count) (signedValue minus value))) .length ≤ minus + count
+    go true true = omega arith
+    go true false = omega arith
+    go false u = omega arith
+
+pub number-most : (s : List ℕ) → numberOf s .length ≤ 11
+unfolding numberOf
+number-most s =
+    let d = digitsOf (drop (minusOf s) s) in
+    omega (arith, signed-most (minusOf s) (d .count) (d .value), minus-most s, digits-most (drop (minusOf s) s))

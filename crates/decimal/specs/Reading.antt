@@ -26,7 +26,7 @@ valueAfter v (b ∷ s) = cond (leb (digitOf b) 9) (valueAfter (10 * v + digitOf 
 abbrev pub digits : ℕ → ℕ → Digits
 digits count value = record { count = count; value = value }
 
--- "one to ten digits"; none have count 0.
+-- "one to ten digits"; where there are none, or more than ten, the count is 0.
 unfoldable pub digitsOf : List ℕ → Digits
 digitsOf s = cond (leb (digitCount s) 10) (digits (digitCount s) (valueAfter 0 s)) (digits 0 0)
 
@@ -51,7 +51,7 @@ signed minus count value =
     (need (inRange (negℤ (pos 2_147_483_648)) (signedValue minus value) (pos 2_147_483_647)) noNumber
     (number (minus + count) (signedValue minus value)))
 
--- The number at the front, and how many bytes it takes; none has length 0.
+-- The number at the front, and how many bytes it takes. Where there is none, or 32 bits do not hold it, the length is 0.
 unfoldable pub numberOf : List ℕ → Number
 numberOf s =
     let d = digitsOf (drop (minusOf s) s) in

@@ -72,6 +72,6 @@ toGeographic s p = doorOf (countsOf p) (λ a b. geographicAnswer (planeToGeograp
 abbrev pub toGrid : List ℕ → Point → Answer
 toGrid s p = doorOf (countsOf p) (λ a b. gridAnswer (convergenceAndScale s a b))
 
--- "A further question gives a hundredths count in feet as one f64 division by 100": both floats hold their counts as they are, and the quotient is rounded once.
+-- "A further question gives a hundredths count in feet as one f64 division by 100; the count is a signed 32-bit number": both floats hold their counts as they are, and the quotient is rounded once.
 abbrev pub feetOf : ℤ → Float
 feetOf n = div binary64 (float n) (float (pos 100))

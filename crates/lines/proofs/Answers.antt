@@ -14,7 +14,7 @@ use Rattle.grid.specs.declared.Grid.{Grid}
 use Rattle.convert.specs.Conversions.{geographicToPlane, planeToGeographic, convergenceAndScale}
 use Rattle.decimal.specs.Writing.{Wrote}
 use Rattle.lines.specs.declared.Line.{Line}
-use Rattle.lines.specs.Lines.{lineOf, answerLine, unknownLine, answerTo, answerText, mostBytes, written, writtenOf, afterLine}
+use Rattle.lines.specs.Lines.{lineOf, answerLine, unknownLine, answerTo, answerText, lineRoom, written, writtenOf, afterLine}
 
 module _ (s line : List ℕ) (l : Line) (e : l ≡ lineOf line) (a b : ℤ) (x : a ≡ l .first) (y : b ≡ l .second) where
   pub forward-line : (r : Plane) → l .form ≡ 71 → r ≡ geographicToPlane s a b → answerLine (r .number) (r .x) (r .y) ≡ answerText s line
@@ -35,13 +35,13 @@ unknown-line s line l e n m o = rw (← e) (is-not (l .form) 71 _ _ _ n (is-not 
 
 -- ---- in lent memory
 module _ (s line old : List ℕ) where
-  pub no-room : length old < mostBytes → (written 17 0 ≡ writtenOf s line old) × (old ≡ afterLine s line old)
+  pub no-room : length old < lineRoom → (written 17 0 ≡ writtenOf s line old) × (old ≡ afterLine s line old)
   unfolding writtenOf afterLine need
-  no-room h = let e = lt-leb mostBytes (length old) h in (rw e, rw e)
+  no-room h = let e = lt-leb lineRoom (length old) h in (rw e, rw e)
 
-  pub in-room : (new : List ℕ) (n : ℕ) → mostBytes ≤ length old → Wrote old new 0 n (answerText s line) → (written 0 n ≡ writtenOf s line old) × (new ≡ afterLine s line old)
+  pub in-room : (new : List ℕ) (n : ℕ) → lineRoom ≤ length old → Wrote old new 0 n (answerText s line) → (written 0 n ≡ writtenOf s line old) × (new ≡ afterLine s line old)
   unfolding writtenOf afterLine need
   in-room new n h w =
-      let e = le-leb mostBytes (length old) h in
+      let e = le-leb lineRoom (length old) h in
       let l : n ≡ length (answerText s line) = w .place ∙ zero-add (length (answerText s line)) in
       (rw (e, l), rw e (w .bytes))

@@ -2,7 +2,7 @@
 use mathlib.Core.Path.{_≡_, refl}
 use mathlib.Core.Bool.{Bool, true, false, not, _||_}
 use mathlib.Core.List.{List}
-use Prim.Native.Nat.{ℕ, zero, suc, _+_}
+use Prim.Native.Nat.{ℕ, zero, suc, _+_, _<_}
 use native.Mathlib.Omega.{arith}
 use borrow.Author.Tests.{not-true, not-false, eq-eqb, ne-eqb, lt-ltb}
 use lib.Dec.{eqb, ltb}
@@ -10,6 +10,8 @@ use lib.ListN.{length, drop, getD}
 use Rattle.words.specs.Ladder.{need}
 use Rattle.decimal.specs.declared.Number.{Number}
 use Rattle.decimal.specs.Reading.{numberOf}
+use Rattle.decimal.proofs.NumbersRead.{number-most}
+use Rattle.lines.specs.declared.Line.{Line}
 use Rattle.lines.specs.Lines.{isForm, firstOf, secondOf, asks, unknown, lineOf}
 
 -- ---- a form's letter
@@ -67,3 +69,19 @@ module _ (line : List ℕ) (form : ℕ) (f : form ≡ getD line 0 0) (t : Bool) 
             pub all-read : 3 + first .length + second .length ≡ length line → asks form (first .value) (second .value) ≡ lineOf line
             unfolding lineOf need
             all-read w = rw (← f, ← e, not-false t h, ← k, eq-eqb b 32 n, first-is, above-zero (first .length) z, ← l, eq-eqb m 32 o, second-is, above-zero (second .length) y, eq-eqb _ _ w)
+
+-- ---- a line of more than 25 bytes is of no known form
+past-all : (a b c d e f : Bool) (l : Line) → f ≡ false → need a unknown (need b unknown (need c unknown (need d unknown (need e unknown (need f unknown l))))) ≡ unknown
+unfolding need
+past-all false b c d e f l h = refl
+past-all true false c d e f l h = refl
+past-all true true false d e f l h = refl
+past-all true true true false e f l h = refl
+past-all true true true true false f l h = refl
+past-all true true true true true f l h = rw h
+
+pub too-long : (line : List ℕ) → 25 < length line → lineOf line ≡ unknown
+unfolding lineOf firstOf secondOf
+too-long line h =
+    past-all (isForm (getD line 0 0)) (eqb (getD line 1 0) 32) (ltb 0 (firstOf line .length)) (eqb (getD line (2 + firstOf line .length) 0) 32) (ltb 0 (secondOf line .length)) (eqb (3 + firstOf line .length + secondOf line .length) (length line)) (asks (getD line 0 0) (firstOf line .value) (secondOf line .value))
+    (ne-eqb (3 + firstOf line .length + secondOf line .length) (length line) (λ e. omega (arith, h, e, number-most (drop 2 line), number-most (drop (3 + firstOf line .length) line))))

@@ -85,16 +85,16 @@ answerText s line = answerTo s (lineOf line)
 
 -- ---- the line written to lent memory
 -- Room for any line: three numbers of at most 21 bytes, with a byte after each.
-abbrev pub mostBytes : ℕ
-mostBytes = 66
+abbrev pub lineRoom : ℕ
+lineRoom = 66
 
 abbrev pub written : ℕ → ℕ → Written
 written number length = record { number = number; length = length }
 
--- "17 [..] for too little room": less than for the longest line; else the line's length.
+-- "17 [..] for too little room", less than `lineRoom`; else the line's length. What refuses the sheet, the point or the line stands in the text: it is no refusal to write.
 unfoldable pub writtenOf : List ℕ → List ℕ → List ℕ → Written
-writtenOf s line old = need (leb mostBytes (length old)) (written 17 0) (written 0 (length (answerText s line)))
+writtenOf s line old = need (leb lineRoom (length old)) (written 17 0) (written 0 (length (answerText s line)))
 
 -- The memory after it: the line at its front, the rest as it was; "a refusal writes nothing".
 unfoldable pub afterLine : List ℕ → List ℕ → List ℕ → List ℕ
-afterLine s line old = need (leb mostBytes (length old)) old (sets old 0 (answerText s line))
+afterLine s line old = need (leb lineRoom (length old)) old (sets old 0 (answerText s line))

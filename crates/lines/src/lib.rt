@@ -6,7 +6,7 @@ ghost use lib.ListN.{length};
 ghost use Rattle.entries.specs.Entries.{placesOf};
 ghost use Rattle.bodies.specs.Check.{checkOf};
 ghost use Rattle.decimal.specs.Writing.{sizeText, numberText, Wrote};
-ghost use Rattle.lines.specs.Lines.{isForm, lineOf, ended, answerLine, verdictLine, unknownLine, answerText, mostBytes, writtenOf, afterLine};
+ghost use Rattle.lines.specs.Lines.{isForm, lineOf, ended, answerLine, verdictLine, unknownLine, answerText, lineRoom, writtenOf, afterLine};
 
 // What a line asks: the form's letter, and its two numbers. A line of no known form has form 0 and zeros.
 pub struct Line {
@@ -32,7 +32,7 @@ const INVERSE: u8 = 80; // P
 const SCALE: u8 = 83; // S
 
 // Room for any line that is written: three numbers of at most 21 bytes, with a byte after each.
-pub const MOST_BYTES: usize = 66;
+pub const LINE_ROOM: usize = 66;
 
 // ---- what a line asks
 
@@ -104,8 +104,8 @@ fn put_number_and(out: &mut [u8], at: usize, v: i32, end: u8) -> usize
 
 // A conversion's answer, from `at` on; the place after it.
 fn put_answer(out: &mut [u8], at: usize, number: u32, a: i32, b: i32) -> usize
-    requires { ⌜ at + mostBytes ≤ length (now out) ⌝ }
-    ensures { λ r. ⌜ (r ≤ at + mostBytes) × Wrote (now (out .entry)) (now (out .exit)) at r (answerLine number a b) ⌝ }
+    requires { ⌜ at + lineRoom ≤ length (now out) ⌝ }
+    ensures { λ r. ⌜ (r ≤ at + lineRoom) × Wrote (now (out .entry)) (now (out .exit)) at r (answerLine number a b) ⌝ }
 {
     let i = put_size_and(out, at, number as u64, BLANK);
     let j = put_number_and(out, i, a, BLANK);
@@ -114,8 +114,8 @@ fn put_answer(out: &mut [u8], at: usize, number: u32, a: i32, b: i32) -> usize
 
 // The check's answer, from `at` on; the place after it.
 pub fn put_verdict(out: &mut [u8], at: usize, number: u32, kind: usize, row: usize) -> usize
-    requires { ⌜ at + mostBytes ≤ length (now out) ⌝ }
-    ensures { λ r. ⌜ (r ≤ at + mostBytes) × Wrote (now (out .entry)) (now (out .exit)) at r (verdictLine number kind row) ⌝ }
+    requires { ⌜ at + lineRoom ≤ length (now out) ⌝ }
+    ensures { λ r. ⌜ (r ≤ at + lineRoom) × Wrote (now (out .entry)) (now (out .exit)) at r (verdictLine number kind row) ⌝ }
 {
     let i = put_size_and(out, at, number as u64, BLANK);
     let j = put_size_and(out, i, kind as u64, BLANK);
@@ -124,16 +124,16 @@ pub fn put_verdict(out: &mut [u8], at: usize, number: u32, kind: usize, row: usi
 
 // 18, from `at` on; the place after it.
 pub fn put_unknown(out: &mut [u8], at: usize) -> usize
-    requires { ⌜ at + mostBytes ≤ length (now out) ⌝ }
-    ensures { λ r. ⌜ (r ≤ at + mostBytes) × Wrote (now (out .entry)) (now (out .exit)) at r unknownLine ⌝ }
+    requires { ⌜ at + lineRoom ≤ length (now out) ⌝ }
+    ensures { λ r. ⌜ (r ≤ at + lineRoom) × Wrote (now (out .entry)) (now (out .exit)) at r unknownLine ⌝ }
 {
     put_size_and(out, at, 18, LINE_FEED)
 }
 
 // The line's answer on a sheet known to pass, with its places, from `at` on; the place after it.
 pub fn answer(s: &[u8], p: Places, line: &[u8], out: &mut [u8], at: usize) -> usize
-    requires { ⌜ (checkOf (now s) .number ≡ 0) × (p ≡ placesOf (now s)) × (at + mostBytes ≤ length (now out)) ⌝ }
-    ensures { λ r. ⌜ (r ≤ at + mostBytes) × Wrote (now (out .entry)) (now (out .exit)) at r (answerText (now (s .entry)) (now (line .entry))) ⌝ }
+    requires { ⌜ (checkOf (now s) .number ≡ 0) × (p ≡ placesOf (now s)) × (at + lineRoom ≤ length (now out)) ⌝ }
+    ensures { λ r. ⌜ (r ≤ at + lineRoom) × Wrote (now (out .entry)) (now (out .exit)) at r (answerText (now (s .entry)) (now (line .entry))) ⌝ }
 {
     let l = line_of(line);
     let form = l.form;
@@ -154,7 +154,7 @@ pub fn answer(s: &[u8], p: Places, line: &[u8], out: &mut [u8], at: usize) -> us
 
 // The line's answer on any sheet, checked first, from the front of `out` on; its length.
 fn checked_answer(sheet: &[u8], line: &[u8], out: &mut [u8]) -> usize
-    requires { ⌜ mostBytes ≤ length (now out) ⌝ }
+    requires { ⌜ lineRoom ≤ length (now out) ⌝ }
     ensures { λ r. ⌜ Wrote (now (out .entry)) (now (out .exit)) 0 r (answerText (now (sheet .entry)) (now (line .entry))) ⌝ }
 {
     let l = line_of(line);
@@ -179,7 +179,7 @@ pub fn answer_line(sheet: &[u8], line: &[u8], out: &mut [u8]) -> Written
     ensures answer { λ r. ⌜ r ≡ writtenOf (now (sheet .entry)) (now (line .entry)) (now (out .entry)) ⌝ }
     ensures memory { λ _. ⌜ now (out .exit) ≡ afterLine (now (sheet .entry)) (now (line .entry)) (now (out .entry)) ⌝ }
 {
-    if out.len() < MOST_BYTES {
+    if out.len() < LINE_ROOM {
         return Written {
             number: 17,
             length: 0,

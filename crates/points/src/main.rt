@@ -9,7 +9,7 @@ ghost use Prim.Native.Nat.{_+_, _-_, _≤_, _<_};
 ghost use lib.ListN.{length};
 ghost use Rattle.entries.specs.Entries.{placesOf};
 ghost use Rattle.bodies.specs.Check.{checkOf};
-ghost use Rattle.lines.specs.Lines.{mostBytes};
+ghost use Rattle.lines.specs.Lines.{lineRoom};
 
 // The most bytes of a file's name. A line of a known form has less.
 const MOST_NAME: usize = 255;
@@ -121,10 +121,10 @@ fn read_name(input: &mut [u8]) -> usize
 
 // The place for the next answer: where the output has too little room for it, what it holds is written out, and its front is the place.
 fn room(out: &[u8], at: usize) -> usize
-    requires { ⌜ (at ≤ length (now out)) × (mostBytes ≤ length (now out)) ⌝ }
-    ensures { λ r. ⌜ r + mostBytes ≤ length (now (out .entry)) ⌝ }
+    requires { ⌜ (at ≤ length (now out)) × (lineRoom ≤ length (now out)) ⌝ }
+    ensures { λ r. ⌜ r + lineRoom ≤ length (now (out .entry)) ⌝ }
 {
-    if out.len() - at < lines::MOST_BYTES {
+    if out.len() - at < lines::LINE_ROOM {
         io::write_all(STDOUT_FILENO, &out[0..at]);
         return 0;
     }
@@ -133,8 +133,8 @@ fn room(out: &[u8], at: usize) -> usize
 
 // Answers the input's lines from `from` on, to its last line feed.
 fn answer_all(sheet: &[u8], p: Places, input: &[u8], from: usize, out: &mut [u8], at: usize) -> Rest
-    requires { ⌜ (checkOf (now sheet) .number ≡ 0) × (p ≡ placesOf (now sheet)) × (from ≤ length (now input)) × (at + mostBytes ≤ length (now out)) ⌝ }
-    ensures { λ r. ⌜ (r .from ≤ length (now (input .entry))) × (r .at + mostBytes ≤ length (now (out .exit))) ⌝ }
+    requires { ⌜ (checkOf (now sheet) .number ≡ 0) × (p ≡ placesOf (now sheet)) × (from ≤ length (now input)) × (at + lineRoom ≤ length (now out)) ⌝ }
+    ensures { λ r. ⌜ (r .from ≤ length (now (input .entry))) × (r .at + lineRoom ≤ length (now (out .exit))) ⌝ }
 {
     let mut i = from;
     let mut o = at;
@@ -175,8 +175,8 @@ fn answer_block(
     out: &mut [u8],
     at: usize,
 ) -> State
-    requires { ⌜ (checkOf (now sheet) .number ≡ 0) × (p ≡ placesOf (now sheet)) × (from ≤ to) × (to ≤ length (now input)) × (at + mostBytes ≤ length (now out)) ⌝ }
-    ensures { λ r. ⌜ (r .kept < 256) × (r .at + mostBytes ≤ length (now (out .exit))) ⌝ }
+    requires { ⌜ (checkOf (now sheet) .number ≡ 0) × (p ≡ placesOf (now sheet)) × (from ≤ to) × (to ≤ length (now input)) × (at + lineRoom ≤ length (now out)) ⌝ }
+    ensures { λ r. ⌜ (r .kept < 256) × (r .at + lineRoom ≤ length (now (out .exit))) ⌝ }
 {
     let r = answer_all(sheet, p, &input[0..to], from, out, at);
     let start = r.from;
@@ -205,8 +205,8 @@ fn end_long(
     out: &mut [u8],
     at: usize,
 ) -> State
-    requires { ⌜ (checkOf (now sheet) .number ≡ 0) × (p ≡ placesOf (now sheet)) × (to ≤ length (now input)) × (at + mostBytes ≤ length (now out)) ⌝ }
-    ensures { λ r. ⌜ (r .kept < 256) × (r .at + mostBytes ≤ length (now (out .exit))) ⌝ }
+    requires { ⌜ (checkOf (now sheet) .number ≡ 0) × (p ≡ placesOf (now sheet)) × (to ≤ length (now input)) × (at + lineRoom ≤ length (now out)) ⌝ }
+    ensures { λ r. ⌜ (r .kept < 256) × (r .at + lineRoom ≤ length (now (out .exit))) ⌝ }
 {
     let end = bytes::scan::find(input, 0, to, LINE_FEED);
     if end == to {
@@ -230,8 +230,8 @@ fn answer_next(
     s: State,
     out: &mut [u8],
 ) -> State
-    requires { ⌜ (checkOf (now sheet) .number ≡ 0) × (p ≡ placesOf (now sheet)) × (to ≤ length (now input)) × (s .at + mostBytes ≤ length (now out)) ⌝ }
-    ensures { λ r. ⌜ (r .kept < 256) × (r .at + mostBytes ≤ length (now (out .exit))) ⌝ }
+    requires { ⌜ (checkOf (now sheet) .number ≡ 0) × (p ≡ placesOf (now sheet)) × (to ≤ length (now input)) × (s .at + lineRoom ≤ length (now out)) ⌝ }
+    ensures { λ r. ⌜ (r .kept < 256) × (r .at + lineRoom ≤ length (now (out .exit))) ⌝ }
 {
     let at = s.at;
     if s.long {
@@ -242,7 +242,7 @@ fn answer_next(
 
 // Answers what is left at the input's end, a line too where there is any; the place in the output.
 fn answer_last(sheet: &[u8], p: Places, input: &[u8], s: State, out: &mut [u8]) -> usize
-    requires { ⌜ (checkOf (now sheet) .number ≡ 0) × (p ≡ placesOf (now sheet)) × (s .kept ≤ length (now input)) × (s .at + mostBytes ≤ length (now out)) ⌝ }
+    requires { ⌜ (checkOf (now sheet) .number ≡ 0) × (p ≡ placesOf (now sheet)) × (s .kept ≤ length (now input)) × (s .at + lineRoom ≤ length (now out)) ⌝ }
     ensures { λ r. ⌜ r ≤ length (now (out .exit)) ⌝ }
 {
     let kept = s.kept;
@@ -267,7 +267,7 @@ fn answer_input(
     out: &mut [u8],
     at: usize,
 )
-    requires { ⌜ (checkOf (now sheet) .number ≡ 0) × (p ≡ placesOf (now sheet)) × (from ≤ to) × (to ≤ length (now input)) × (256 ≤ length (now input)) × (at + mostBytes ≤ length (now out)) ⌝ }
+    requires { ⌜ (checkOf (now sheet) .number ≡ 0) × (p ≡ placesOf (now sheet)) × (from ≤ to) × (to ≤ length (now input)) × (256 ≤ length (now input)) × (at + lineRoom ≤ length (now out)) ⌝ }
 {
     let mut s = answer_block(sheet, p, input, from, to, out, at);
     let mut turns = u64::MAX;
@@ -297,7 +297,7 @@ fn behind(end: usize, n: usize) -> usize
 
 // Prints the check's answer and, where it is 0, the answers to the lines behind the name, which ends at `end` of the input's first n bytes.
 fn run(sheet: &[u8], input: &mut [u8], end: usize, n: usize, out: &mut [u8])
-    requires { ⌜ (end ≤ n) × (n ≤ length (now input)) × (256 ≤ length (now input)) × (mostBytes + mostBytes ≤ length (now out)) ⌝ }
+    requires { ⌜ (end ≤ n) × (n ≤ length (now input)) × (256 ≤ length (now input)) × (lineRoom + lineRoom ≤ length (now out)) ⌝ }
 {
     let v = bodies::check(sheet);
     let number = v.number;

@@ -40,6 +40,12 @@ use Rattle.door.proofs.convergence_and_scale.Kinds as door-grid-kinds
 use Rattle.door.proofs.convergence_and_scale.Reads as door-grid-reads
 use Rattle.door.proofs.feet.Kinds as feet-kinds
 use Rattle.door.proofs.feet.Reads as feet-reads
+use Rattle.lines.proofs.answer_line.Kinds as line-kinds
+use Rattle.lines.proofs.answer_line.Reads as line-reads
+use Rattle.lines.proofs.line_of.Kinds as asked-kinds
+use Rattle.lines.proofs.line_of.Reads as asked-reads
+use Rattle.decimal.proofs.number_at.Kinds as number-kinds
+use Rattle.decimal.proofs.number_at.Reads as number-reads
 use Rattle.reader.specs.declared.Reader.{Reader}
 use Rattle.reader.proofs.new as new
 use Rattle.reader.proofs.moved as moved
@@ -113,6 +119,21 @@ one-door-grid κs given r t x y p q = p ∙ sym q
 pub one-feet : (κs : Lfts 0) (given : Dens κs feet-kinds.ps) (r t : resT feet-kinds.r κs .Denot) (x y : AtExit (endedOf 0 feet-kinds.ps feet-kinds.r) κs)
     → feet-reads.Learnt κs given r x → feet-reads.Learnt κs given t y → r ≡ t
 one-feet κs given r t x y p q = p ∙ sym q
+
+-- `lines::answer_line`: one number and length, and one content of the output's memory
+pub one-line : (κs : Lfts 3) (given : Dens κs line-kinds.ps) (r t : resT line-kinds.r κs .Denot) (x y : AtExit (endedOf 3 line-kinds.ps line-kinds.r) κs)
+    → line-reads.Learnt κs given r x → line-reads.Learnt κs given t y → (r ≡ t) × (now (x .1 .1 .0) ≡ now (y .1 .1 .0))
+one-line κs given r t x y p q = (p .0 ∙ sym (q .0), p .1 ∙ sym (q .1))
+
+-- `lines::line_of`
+pub one-asked : (κs : Lfts 1) (given : Dens κs asked-kinds.ps) (r t : resT asked-kinds.r κs .Denot) (x y : AtExit (endedOf 1 asked-kinds.ps asked-kinds.r) κs)
+    → asked-reads.Learnt κs given r x → asked-reads.Learnt κs given t y → r ≡ t
+one-asked κs given r t x y p q = p ∙ sym q
+
+-- `decimal::number_at`
+pub one-number : (κs : Lfts 1) (given : Dens κs number-kinds.ps) (r t : resT number-kinds.r κs .Denot) (x y : AtExit (endedOf 1 number-kinds.ps number-kinds.r) κs)
+    → number-reads.Learnt κs given r x → number-reads.Learnt κs given t y → r ≡ t
+one-number κs given r t x y p q = p .0 ∙ sym (q .0)
 
 -- `reader::entry_at`
 pub one-entry-at : (κs : Lfts 1) (given : Dens κs at-kinds.ps) (r t : resT at-kinds.r κs .Denot) (x y : AtExit (endedOf 1 at-kinds.ps at-kinds.r) κs)

@@ -10,13 +10,15 @@ use Rattle.entries.specs.Entries.{kindAt, startAt, rowsAt}
 use Rattle.reader.specs.declared.Entry.{Entry}
 use Rattle.reader.specs.declared.Entry.the-variants.{Of, End}
 
--- The entry whose first word is at the place, any word of the sheet. The end where the sheet has no three words there.
+-- The entry whose first word is at the place, which may be any word of the sheet, behind the contents too; words are read without a sign, as the check reads the contents.
+-- The end where the sheet has no three words there.
 unfoldable pub entryAt : List ℕ → ℕ → Entry
 entryAt s place =
     need (leb (4 * (place + entryWords)) (length s)) End
     (Of (unsignedAt s place) (unsignedAt s (place + 1)) (unsignedAt s (place + 2)))
 
--- "Six entries follow": entry e, counted from 0, by the words that the check reads. The end past the last, and where the sheet has no three words there.
+-- "Six entries follow": entry e, counted from 0, by the words that the check reads; word 0 is not looked at. The end past the last, and where the sheet has no three words
+-- there.
 unfoldable pub entryNumbered : List ℕ → ℕ → Entry
 entryNumbered s e =
     need (ltb e entryCount) End

@@ -1,20 +1,24 @@
 -- `blocks::answer_lines` meets its contract: each turn answers one line more. Assumes nothing.
 use borrow.Author.Needs.{needs}
-use mathlib.Core.Path.{_≡_, refl, _∙_}
+use mathlib.Core.Path.{_≡_, refl, sym, _∙_}
+use mathlib.Core.Bool.{true, false}
 use Prim.Native.Nat.{ℕ, _+_, _-_, _≤_}
 use native.Mathlib.Omega.{arith}
 use denote.Ref.{now}
 use lib.ListN.{length}
-use Rattle.lines.specs.Lines.{mostBytes}
-use Rattle.blocks.proofs.Splitting.{Answering, begun, none-left, nothing-left, line-more}
+use Rattle.lines.specs.Lines.{lineRoom}
+use Rattle.blocks.proofs.Splitting.{Answering, begun, input-read, none-left, line-more, with-room, without-room}
 use Rattle.blocks.proofs.answer_lines.Statement.{statement}
 use Rattle.blocks.proofs.answer_lines.Tie as tie
 
 abbrev Inv-loop : tie.InvT-loop
-Inv-loop s p input from out₀ at i₀ o₀ out i o = Answering s input from out₀ out at i o × (length out ≡ length out₀) × (o + mostBytes ≤ length out)
+Inv-loop s p input from out₀ at i₀ o₀ out i o = Answering s input from out₀ out at i o × (length out ≡ length out₀) × (o + lineRoom ≤ length out₀)
 
 abbrev μ-loop : tie.MeasureT-loop
 μ-loop s p input from out₀ at i₀ o₀ out i o = length input - i
+
+never : {A : Type 0} → false ≡ true → A
+never e = let z : _≡_ {A = ℕ} 0 1 = cc in absurd (omega arith)
 
 -- ---- what it answers
 same-length : tie.Need-same-length Inv-loop μ-loop
@@ -24,15 +28,17 @@ returns : tie.Need-returns Inv-loop μ-loop
 returns c =
     let l = c .before .before .before .loop in
     let a = l .inv .0 in
+    let e = none-left a _ (c .before .find .ensures .0) (c .if1 .taken) in
     record {
       text = a .text;
       wrote = a .wrote;
+      far = e .1;
       those = a .those;
       inside = a .inside;
-      all = λ e. none-left _ _ _ _ _ _ _ _ a _ (c .before .find .ensures .0) (c .if1 .taken);
-      room = λ e. l .inv .2;
-      fits = omega (arith, l .inv .2);
-      on = λ e. let z : _≡_ {A = ℕ} 0 1 = cc in absurd (omega arith);
+      all = λ z. e .0;
+      room = λ z. omega (arith, l .inv .1, l .inv .2);
+      fits = omega (arith, l .inv .1, l .inv .2);
+      on = λ z. never z;
     }
 
 same-length-2 : tie.Need-same-length-2 Inv-loop μ-loop
@@ -44,16 +50,18 @@ returns-2 c =
     let found = known .before .before .before .before .before .before in
     let l = found .before .before .loop in
     let put = known .before .before .answer in
-    let a = line-more _ _ _ _ _ _ _ _ (l .inv .0) _ (found .find .ensures .0) (found .find .ensures .1) (known .before .before .before .before .before .if1 .left) _ _ (put .ensures .1) in
+    let b = line-more (l .inv .0) _ (found .find .ensures .0) (found .find .ensures .1) (known .before .before .before .before .before .if1 .left) (put .ensures .1) in
+    let start = found .before .before .before .before .before .before in
     record {
-      text = a .text;
-      wrote = a .wrote;
-      those = a .those;
-      inside = a .inside;
-      all = λ e. let z : _≡_ {A = ℕ} 0 1 = cc in absurd (omega arith);
-      room = λ e. let z : _≡_ {A = ℕ} 0 1 = cc in absurd (omega arith);
-      fits = omega (arith, put .ensures .0, l .inv .2, put .kept .1 .1 .1 .0);
-      on = λ e. omega (arith, l .inv .0 .since, found .find .ensures .0);
+      text = b .text;
+      wrote = b .wrote;
+      far = without-room b (start .pre .3) (omega (arith, c .if2 .taken, put .kept .1 .1 .1 .0, l .inv .1));
+      those = b .those;
+      inside = b .inside;
+      all = λ z. never (sym z);
+      room = λ z. never (sym z);
+      fits = omega (arith, put .ensures .0, l .inv .1, l .inv .2, put .kept .1 .1 .1 .0);
+      on = λ z. b .since;
     }
 
 same-length-3 : tie.Need-same-length-3 Inv-loop μ-loop
@@ -63,15 +71,17 @@ returns-3 : tie.Need-returns-3 Inv-loop μ-loop
 returns-3 c =
     let l = c .before .loop in
     let a = l .inv .0 in
+    let e = input-read a (omega arith) in
     record {
       text = a .text;
       wrote = a .wrote;
+      far = e .1;
       those = a .those;
       inside = a .inside;
-      all = λ e. nothing-left (now (c .before .before .before .before .before .args .s)) (now (c .before .before .before .before .before .args .input)) (l .i) (omega arith);
-      room = λ e. l .inv .2;
-      fits = omega (arith, l .inv .2);
-      on = λ e. let z : _≡_ {A = ℕ} 0 1 = cc in absurd (omega arith);
+      all = λ z. e .0;
+      room = λ z. omega (arith, l .inv .1, l .inv .2);
+      fits = omega (arith, l .inv .1, l .inv .2);
+      on = λ z. never z;
     }
 
 -- ---- what its loop keeps
@@ -84,8 +94,10 @@ loop-again c =
     let found = known .before .before .before .before .before .before in
     let l = found .before .before .loop in
     let put = known .before .before .answer in
-    let a = line-more _ _ _ _ _ _ _ _ (l .inv .0) _ (found .find .ensures .0) (found .find .ensures .1) (known .before .before .before .before .before .if1 .left) _ _ (put .ensures .1) in
-    (a, put .kept .1 .1 .1 .0 ∙ l .inv .1, omega (arith, c .if2 .left, put .ensures .0, l .inv .2, put .kept .1 .1 .1 .0))
+    let b = line-more (l .inv .0) _ (found .find .ensures .0) (found .find .ensures .1) (known .before .before .before .before .before .if1 .left) (put .ensures .1) in
+    let start = found .before .before .before .before .before .before in
+    let room : put .result + lineRoom ≤ length (now (start .args .out)) = omega (arith, c .if2 .left, put .ensures .0, l .inv .1, l .inv .2, put .kept .1 .1 .1 .0) in
+    (with-room b (start .pre .3) room, put .kept .1 .1 .1 .0 ∙ l .inv .1, room)
 
 loop-less : tie.Need-loop-less Inv-loop μ-loop
 loop-less c =
@@ -107,8 +119,9 @@ part-answer-end c = search needs
 
 answer-requires : tie.Need-answer-requires Inv-loop μ-loop
 answer-requires c κs =
+    let l = c .before .before .before .before .before .loop in
     let start = c .before .before .before .before .before .before .before .before .before in
-    (start .pre .0, start .pre .1, c .before .before .before .before .before .loop .inv .2)
+    (start .pre .0, start .pre .1, omega (arith, l .inv .1, l .inv .2))
 
 add-i : tie.Need-add-i Inv-loop μ-loop
 add-i c = record { fits = omega (arith, c .before .before .before .before .before .before .find .ensures .1) }
@@ -116,7 +129,8 @@ add-i c = record { fits = omega (arith, c .before .before .before .before .befor
 sub-if2 : tie.Need-sub-if2 Inv-loop μ-loop
 sub-if2 c =
     let put = c .before .before .answer in
-    omega (arith, put .ensures .0, put .kept .1 .1 .1 .0, c .before .before .before .before .before .before .before .before .loop .inv .2)
+    let l = c .before .before .before .before .before .before .before .before .loop in
+    omega (arith, put .ensures .0, put .kept .1 .1 .1 .0, l .inv .1, l .inv .2)
 
 pub answer-lines-spec : {M : Type 1} → statement M
 answer-lines-spec =

@@ -5,12 +5,12 @@ use Prim.Native.Nat.{_+_, _-_, _≤_}
 use native.Mathlib.Omega.{arith}
 use borrow.Author.Tests.{not-true, not-false}
 use lib.ListN.{length}
-use Rattle.lines.specs.Lines.{mostBytes}
+use Rattle.lines.specs.Lines.{lineRoom}
 use Rattle.points.proofs.answer_all.Statement.{statement}
 use Rattle.points.proofs.answer_all.Tie as tie
 
 abbrev Inv-loop : tie.InvT-loop
-Inv-loop sheet p input from out₀ at i₀ o₀ out i o = (i ≤ length input) × (o + mostBytes ≤ length out) × (length out ≡ length out₀)
+Inv-loop sheet p input from out₀ at i₀ o₀ out i o = (i ≤ length input) × (o + lineRoom ≤ length out) × (length out ≡ length out₀)
 
 abbrev μ-loop : tie.MeasureT-loop
 μ-loop sheet p input from out₀ at i₀ o₀ out i o = length input - i

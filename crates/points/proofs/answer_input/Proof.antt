@@ -3,13 +3,13 @@ use borrow.Author.Needs.{needs}
 use mathlib.Core.Path.{_≡_}
 use Prim.Native.Nat.{_+_, _≤_, _<_}
 use lib.ListN.{length}
-use Rattle.lines.specs.Lines.{mostBytes}
+use Rattle.lines.specs.Lines.{lineRoom}
 use Rattle.points.proofs.answer_input.Statement.{statement}
 use Rattle.points.proofs.answer_input.Tie as tie
 
 abbrev Inv-loop : tie.InvT-loop
 Inv-loop sheet p input₀ from to out₀ at s₀ turns₀ input out s turns =
-    (s .kept < 256) × (s .at + mostBytes ≤ length out) × (length input ≡ length input₀) × (length out ≡ length out₀)
+    (s .kept < 256) × (s .at + lineRoom ≤ length out) × (length input ≡ length input₀) × (length out ≡ length out₀)
 
 abbrev μ-loop : tie.MeasureT-loop
 μ-loop sheet p input₀ from to out₀ at s₀ turns₀ input out s turns = turns
