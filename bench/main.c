@@ -1,6 +1,6 @@
 // Times the library beside the plain C of the same rules, on the sheets that its arguments name. The two run in turn, so that what else the machine does falls on
-// both: nanoseconds a call, the least of all turns, and the middle one of the turns' ratios, as the library's time over the plain C's and, for speed, the other way
-// round. First it compares their answers, on each sheet and on many with a few words changed.
+// both: nanoseconds a call, the least of all turns; the ratio of these, the library's to the plain C's, with the middle one of the turns' own ratios; and the
+// library's speed as a part of the plain C's. First it compares their answers, on each sheet and on many with a few words changed.
 #include <stdio.h>
 #include <stdlib.h>
 #include <string.h>
@@ -76,8 +76,8 @@ static void say_times(times *t, const char *each) {
     double ratio[TURNS];
     for (int k = 0; k < TURNS; k++) ratio[k] = t->ours[k] / t->plain[k];
     qsort(t->ours, TURNS, sizeof(double), rising), qsort(t->plain, TURNS, sizeof(double), rising), qsort(ratio, TURNS, sizeof(double), rising);
-    double r = ratio[TURNS / 2];
-    printf("library %.1f ns%s, plain C %.1f ns, ratio %.2f, speed %.2f\n", t->ours[0], each, t->plain[0], r, 1 / r);
+    double a = t->ours[0], b = t->plain[0];
+    printf("library %.1f ns%s, plain C %.1f ns, ratio %.2f (middle %.2f), speed %.2f\n", a, each, b, a / b, ratio[TURNS / 2], b / a);
 }
 
 typedef verdict check(const uint8_t *, size_t);
