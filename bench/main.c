@@ -1,6 +1,8 @@
-// Times the library beside the plain C of the same rules, on the sheets that its arguments name: nanoseconds a call, the least of several runs, and their
-// ratio. First it compares their answers, on each sheet and on many with a few words changed.
+// Times the library beside the plain C of the same rules, on the sheets that its arguments name. The two run in turn, so that what else the machine does falls on
+// both: nanoseconds a call, the least of all turns; the ratio of these, the library's to the plain C's, with the middle one of the turns' own ratios; and the
+// library's speed as a part of the plain C's. First it compares their answers, on each sheet and on many with a few words changed.
 #include <stdio.h>
+#include <stdlib.h>
 #include <string.h>
 #include <time.h>
 
@@ -12,7 +14,9 @@ greatest bannerscale_forward(const uint8_t *sheet, size_t length, const int32_t 
 greatest bannerscale_inverse(const uint8_t *sheet, size_t length, const int32_t *points, size_t numbers);
 greatest bannerscale_convergence(const uint8_t *sheet, size_t length, const int32_t *points, size_t numbers);
 
-enum { CHANGED = 200000, RUNS = 15, CALLS = 20000, ROOM = 65536, POINTS = 100000 };
+counted bannerscale_batch(const uint8_t *sheet, size_t length, const int32_t *points, size_t numbers, int32_t *answers, size_t room);
+
+enum { CHANGED = 200000, TURNS = 101, CALLS = 1000, ROOM = 65536, POINTS = 100000, MOST = 4096, BATCHES = 2000, AGAIN = 25 };
 
 static int same(verdict a, verdict b) { return a.number == b.number && a.kind == b.kind && a.row == b.row; }
 
@@ -58,30 +62,40 @@ static double now(void) {
     return t.tv_sec * 1e9 + t.tv_nsec;
 }
 
-static double time_check(verdict (*check)(const uint8_t *, size_t), const uint8_t *sheet, size_t length) {
-    double least = 1e18;
+// What each turn took, in nanoseconds a call or a point.
+typedef struct {
+    double ours[TURNS], plain[TURNS];
+} times;
+
+static int rising(const void *a, const void *b) {
+    double x = *(const double *)a, y = *(const double *)b;
+    return (x > y) - (x < y);
+}
+
+static void say_times(times *t, const char *each) {
+    double ratio[TURNS];
+    for (int k = 0; k < TURNS; k++) ratio[k] = t->ours[k] / t->plain[k];
+    qsort(t->ours, TURNS, sizeof(double), rising), qsort(t->plain, TURNS, sizeof(double), rising), qsort(ratio, TURNS, sizeof(double), rising);
+    double a = t->ours[0], b = t->plain[0];
+    printf("library %.1f ns%s, plain C %.1f ns, ratio %.2f (middle %.2f), speed %.2f\n", a, each, b, a / b, ratio[TURNS / 2], b / a);
+}
+
+typedef verdict check(const uint8_t *, size_t);
+
+static double time_check(check *f, const uint8_t *sheet, size_t length) {
     volatile uint32_t sum = 0;
-    for (int run = 0; run < RUNS; run++) {
-        double from = now();
-        for (int k = 0; k < CALLS; k++) sum += check(sheet, length).number;
-        double each = (now() - from) / CALLS;
-        if (each < least) least = each;
-    }
-    return least;
+    double from = now();
+    for (int k = 0; k < CALLS; k++) sum += f(sheet, length).number;
+    return (now() - from) / CALLS;
 }
 
 typedef greatest over(const uint8_t *, size_t, const int32_t *, size_t);
 
 static double time_points(over *all, const uint8_t *sheet, size_t length, const int32_t *points) {
-    double least = 1e18;
     volatile int32_t sum = 0;
-    for (int run = 0; run < RUNS; run++) {
-        double from = now();
-        sum += all(sheet, length, points, 2 * POINTS).first;
-        double each = (now() - from) / POINTS;
-        if (each < least) least = each;
-    }
-    return least;
+    double from = now();
+    sum += all(sheet, length, points, 2 * POINTS).first;
+    return (now() - from) / POINTS;
 }
 
 // Compares the two over the points one by one, then times them over all.
@@ -91,8 +105,10 @@ static int compare(const char *name, const char *file, over *ours, over *plain, 
         greatest a = ours(sheet, length, points + 2 * k, 2), b = plain(sheet, length, points + 2 * k, 2);
         differ += a.first != b.first || a.second != b.second;
     }
-    double a = time_points(ours, sheet, length, points), b = time_points(plain, sheet, length, points);
-    printf("%s %s: %d of %d points answered differently; library %.1f ns a point, plain C %.1f ns, ratio %.2f\n", name, file, differ, POINTS, a, b, a / b);
+    times t;
+    for (int k = 0; k < TURNS; k++) t.ours[k] = time_points(ours, sheet, length, points), t.plain[k] = time_points(plain, sheet, length, points);
+    printf("%s %s: %d of %d points answered differently; ", name, file, differ, POINTS);
+    say_times(&t, " a point");
     return differ;
 }
 
@@ -112,13 +128,69 @@ static void spread(const uint8_t *sheet, const places *p, int32_t *earth, int32_
     }
 }
 
+typedef counted batch(const uint8_t *, size_t, const int32_t *, size_t, int32_t *, size_t);
+
+// One batch by each, over memory that held the same: whether the answers or any word of it differ. What a right batch leaves alone is compared too.
+static int batch_differs(const uint8_t *sheet, size_t length, const int32_t *points, size_t numbers, size_t room, counted *answer) {
+    static int32_t ours[3 * MOST + 8], plain[3 * MOST + 8];
+    for (size_t k = 0; k < 3 * MOST + 8; k++) ours[k] = plain[k] = (int32_t)next();
+    counted a = bannerscale_batch(sheet, length, points, numbers, ours, room);
+    *answer = plain_batch(sheet, length, points, numbers, plain, room);
+    return a.number != answer->number || a.count != answer->count || memcmp(ours, plain, sizeof ours) != 0;
+}
+
+static double time_batch(batch *f, const uint8_t *sheet, size_t length, const int32_t *points) {
+    static int32_t answers[3 * MOST];
+    volatile uint32_t sum = 0;
+    double from = now();
+    for (int k = 0; k < AGAIN; k++) sum += f(sheet, length, points, 2 * MOST, answers, 3 * MOST).count;
+    return (now() - from) / AGAIN / MOST;
+}
+
+// Batches of many sizes, one in four with odd numbers, too many points or too little room, some on a changed sheet, with points inside the tables, at their edges and
+// anywhere; then full ones, timed.
+static int batches(const char *file, const uint8_t *sheet, size_t length, const int32_t *earth) {
+    static int32_t points[2 * MOST + 8];
+    static uint8_t copy[ROOM];
+    int differ = 0, refused = 0;
+    long answered = 0, all = 0;
+    for (int k = 0; k < BATCHES; k++) {
+        size_t count = k % 10 ? next() % 200 : next() % (MOST + 1), numbers = 2 * count, room = 3 * count + next() % 9;
+        for (size_t i = 0; i < 2 * MOST + 8; i++) points[i] = earth[(i + 2 * k) % (2 * POINTS)];
+        for (size_t i = 0; i < numbers; i++)
+            switch (next() % 16) {
+            case 0: points[i] = (int32_t)next(); break;
+            case 1: points[i] += (int32_t)(next() % 20000001) - 10000000;
+            }
+        switch (next() % 12) {
+        case 0: numbers++; break;
+        case 1: numbers = 2 * MOST + next() % 5, room = 3 * MOST + 8; break;
+        case 2: room = count ? 3 * count - 1 - (next() % 2 ? 0 : next() % (3 * count)) : 0;
+        }
+        if (room > 3 * MOST + 8) room = 3 * MOST + 8;
+        memcpy(copy, sheet, length);
+        if (next() % 8 == 0) change(copy, length);
+        counted c;
+        differ += batch_differs(copy, length, points, numbers, room, &c);
+        refused += c.number != 0, answered += c.count, all += c.number ? 0 : (long)(numbers / 2);
+    }
+    counted c;
+    differ += batch_differs(sheet, length, earth, 2 * MOST, 3 * MOST, &c);
+    times t;
+    for (int k = 0; k < TURNS; k++) t.ours[k] = time_batch(bannerscale_batch, sheet, length, earth), t.plain[k] = time_batch(plain_batch, sheet, length, earth);
+    printf("batch %s: %d of %d batches answered differently (%d refused; %ld of %ld points answered); ", file, differ, BATCHES + 1, refused, answered, all);
+    say_times(&t, " a point");
+    return differ;
+}
+
 static int conversions(const char *file, const uint8_t *sheet, size_t length) {
     static int32_t earth[2 * POINTS], flat[2 * POINTS];
     places p = plain_places(sheet);
     spread(sheet, &p, earth, flat);
     return compare("forward", file, bannerscale_forward, plain_forward_all, sheet, length, earth)
          + compare("inverse", file, bannerscale_inverse, plain_inverse_all, sheet, length, flat)
-         + compare("convergence", file, bannerscale_convergence, plain_convergence_all, sheet, length, flat);
+         + compare("convergence", file, bannerscale_convergence, plain_convergence_all, sheet, length, flat)
+         + batches(file, sheet, length, earth);
 }
 
 int main(int count, char **names) {
@@ -130,8 +202,10 @@ int main(int count, char **names) {
         size_t length = fread(sheet, 1, sizeof sheet, file);
         fclose(file);
         int differ = !same(bannerscale_check(sheet, length), plain_check(sheet, length)) + differences(sheet, length, seen);
-        double a = time_check(bannerscale_check, sheet, length), b = time_check(plain_check, sheet, length);
-        printf("check %s: %d of %d changed sheets answered differently; library %.0f ns, plain C %.0f ns, ratio %.2f\n", names[k], differ, CHANGED, a, b, a / b);
+        times t;
+        for (int n = 0; n < TURNS; n++) t.ours[n] = time_check(bannerscale_check, sheet, length), t.plain[n] = time_check(plain_check, sheet, length);
+        printf("check %s: %d of %d changed sheets answered differently; ", names[k], differ, CHANGED);
+        say_times(&t, "");
         if (differ + conversions(names[k], sheet, length)) return 1;
     }
     for (int n = 0; n < 10; n++) printf("number %d: %d\n", n, seen[n]);

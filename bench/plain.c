@@ -208,3 +208,23 @@ static int32_t greater(int32_t a, int32_t b) { return a < b ? b : a; }
 OVER(forward, plane, x, y)
 OVER(inverse, geographic, latitude, longitude)
 OVER(convergence, grid, convergence, scale)
+
+// The batch: its loop too holds the conversion inlined.
+__attribute__((flatten)) static uint32_t answer_all(const uint8_t *restrict sheet, const places *p, const int32_t *restrict points, size_t count, int32_t *restrict answers) {
+    uint32_t answered = 0;
+    for (size_t i = 0; i < count; i++) {
+        plane r = plain_forward(sheet, p, points[2 * i], points[2 * i + 1]);
+        answers[3 * i] = r.number, answers[3 * i + 1] = r.x, answers[3 * i + 2] = r.y;
+        answered += r.number == 0;
+    }
+    return answered;
+}
+
+counted plain_batch(const uint8_t *sheet, size_t length, const int32_t *points, size_t numbers, int32_t *answers, size_t room) {
+    size_t count = numbers / 2;
+    if (numbers % 2 || count > 4096 || room < 3 * count) return (counted){17, 0};
+    uint32_t number = plain_check(sheet, length).number;
+    if (number) return (counted){number, 0};
+    places p = plain_places(sheet);
+    return (counted){0, answer_all(sheet, &p, points, count, answers)};
+}

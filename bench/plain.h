@@ -42,3 +42,10 @@ typedef struct {
 greatest plain_forward_all(const uint8_t *sheet, size_t length, const int32_t *points, size_t numbers);
 greatest plain_inverse_all(const uint8_t *sheet, size_t length, const int32_t *points, size_t numbers);
 greatest plain_convergence_all(const uint8_t *sheet, size_t length, const int32_t *points, size_t numbers);
+
+// A batch: pairs of latitude and longitude, and three words a point in the answers: number, x, y. It answers 17, the check's number, or 0 and how many points have number 0.
+typedef struct {
+    uint32_t number, count;
+} counted;
+
+counted plain_batch(const uint8_t *sheet, size_t length, const int32_t *points, size_t numbers, int32_t *answers, size_t room);
