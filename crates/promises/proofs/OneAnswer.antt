@@ -44,6 +44,8 @@ use Rattle.lines.proofs.answer_line.Kinds as line-kinds
 use Rattle.lines.proofs.answer_line.Reads as line-reads
 use Rattle.lines.proofs.line_of.Kinds as asked-kinds
 use Rattle.lines.proofs.line_of.Reads as asked-reads
+use Rattle.decimal.proofs.byte_at.Kinds as byte-kinds
+use Rattle.decimal.proofs.byte_at.Reads as byte-reads
 use Rattle.decimal.proofs.number_at.Kinds as number-kinds
 use Rattle.decimal.proofs.number_at.Reads as number-reads
 use Rattle.reader.specs.declared.Reader.{Reader}
@@ -129,6 +131,11 @@ one-line κs given r t x y p q = (p .0 ∙ sym (q .0), p .1 ∙ sym (q .1))
 pub one-asked : (κs : Lfts 1) (given : Dens κs asked-kinds.ps) (r t : resT asked-kinds.r κs .Denot) (x y : AtExit (endedOf 1 asked-kinds.ps asked-kinds.r) κs)
     → asked-reads.Learnt κs given r x → asked-reads.Learnt κs given t y → r ≡ t
 one-asked κs given r t x y p q = p ∙ sym q
+
+-- `decimal::byte_at`
+pub one-byte : (κs : Lfts 1) (given : Dens κs byte-kinds.ps) (r t : resT byte-kinds.r κs .Denot) (x y : AtExit (endedOf 1 byte-kinds.ps byte-kinds.r) κs)
+    → byte-reads.Learnt κs given r x → byte-reads.Learnt κs given t y → r ≡ t
+one-byte κs given r t x y p q = p ∙ sym q
 
 -- `decimal::number_at`
 pub one-number : (κs : Lfts 1) (given : Dens κs number-kinds.ps) (r t : resT number-kinds.r κs .Denot) (x y : AtExit (endedOf 1 number-kinds.ps number-kinds.r) κs)
