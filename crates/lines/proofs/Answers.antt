@@ -13,8 +13,9 @@ use Rattle.inverse.specs.declared.Geographic.{Geographic}
 use Rattle.grid.specs.declared.Grid.{Grid}
 use Rattle.convert.specs.Conversions.{geographicToPlane, planeToGeographic, convergenceAndScale}
 use Rattle.decimal.specs.Writing.{Wrote}
-use Rattle.lines.specs.declared.Line.{Line}
-use Rattle.lines.specs.Lines.{lineOf, answerLine, unknownLine, answerTo, answerText, lineRoom, written, writtenOf, afterLine}
+use Rattle.asked.specs.declared.Line.{Line}
+use Rattle.asked.specs.Asked.{lineOf}
+use Rattle.lines.specs.Lines.{answerLine, unknownLine, answerTo, answerText, lineRoom, written, writtenOf, afterLine}
 
 module _ (s line : List ℕ) (l : Line) (e : l ≡ lineOf line) (a b : ℤ) (x : a ≡ l .first) (y : b ≡ l .second) where
   pub forward-line : (r : Plane) → l .form ≡ 71 → r ≡ geographicToPlane s a b → answerLine (r .number) (r .x) (r .y) ≡ answerText s line

@@ -1,50 +1,19 @@
--- The lines of the "Points program": what one asks, and what is printed for it. A line is its bytes without the line feed; s is the sheet.
+-- What is printed for a line of the "Points program". A line is its bytes without the line feed; s is the sheet.
 use Prim.Native.Nat.{ℕ, _+_}
-use mathlib.Core.Bool.{Bool, _||_}
 use mathlib.Core.List.{List, [], _∷_, _++_}
-use lib.Dec.{leb, ltb, eqb}
-use lib.IntN.{ℤ, pos}
-use lib.ListN.{length, drop, getD}
+use lib.Dec.{leb}
+use lib.IntN.{ℤ}
+use lib.ListN.{length}
 use lib.Seq.{sets}
 use Rattle.words.specs.Ladder.{need, whereIs}
 use Rattle.forward.specs.declared.Plane.{Plane}
 use Rattle.inverse.specs.declared.Geographic.{Geographic}
 use Rattle.grid.specs.declared.Grid.{Grid}
 use Rattle.convert.specs.Conversions.{geographicToPlane, planeToGeographic, convergenceAndScale}
-use Rattle.decimal.specs.declared.Number.{Number}
-use Rattle.decimal.specs.Reading.{numberOf}
 use Rattle.decimal.specs.Writing.{sizeText, numberText}
-use Rattle.lines.specs.declared.Line.{Line}
+use Rattle.asked.specs.declared.Line.{Line}
+use Rattle.asked.specs.Asked.{lineOf}
 use Rattle.lines.specs.declared.Written.{Written}
-
--- ---- what a line asks
--- "`G latitude longitude`, `P x y` or `S x y`"
-unfoldable pub isForm : ℕ → Bool
-isForm b = eqb b 71 || eqb b 80 || eqb b 83
-
--- The first number stands behind the letter and a blank, the second behind the first and a blank.
-unfoldable pub firstOf : List ℕ → Number
-firstOf line = numberOf (drop 2 line)
-
-unfoldable pub secondOf : List ℕ → Number
-secondOf line = numberOf (drop (3 + firstOf line .length) line)
-
-abbrev pub asks : ℕ → ℤ → ℤ → Line
-asks form first second = record { form = form; first = first; second = second }
-
-abbrev pub unknown : Line
-unknown = asks 0 (pos 0) (pos 0)
-
--- A letter, "one blank between", a number, a blank, a number, and the line's end; else it is "a program line of no known form".
-unfoldable pub lineOf : List ℕ → Line
-lineOf line =
-    need (isForm (getD line 0 0)) unknown
-    (need (eqb (getD line 1 0) 32) unknown
-    (need (ltb 0 (firstOf line .length)) unknown
-    (need (eqb (getD line (2 + firstOf line .length) 0) 32) unknown
-    (need (ltb 0 (secondOf line .length)) unknown
-    (need (eqb (3 + firstOf line .length + secondOf line .length) (length line)) unknown
-    (asks (getD line 0 0) (firstOf line .value) (secondOf line .value)))))))
 
 -- ---- what is printed
 -- A text, and the byte after it: 32 is a blank, 10 a line feed.

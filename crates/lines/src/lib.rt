@@ -1,4 +1,8 @@
-// One line of the points program: what it asks, and its answer as bytes.
+// One line of the points program, answered as bytes.
+use asked::BLANK;
+use asked::FORWARD;
+use asked::INVERSE;
+use asked::SCALE;
 use entries::Places;
 ghost use mathlib.Core.Path.{_≡_};
 ghost use Prim.Native.Nat.{_+_, _≤_, _<_};
@@ -6,14 +10,7 @@ ghost use lib.ListN.{length};
 ghost use Rattle.entries.specs.Entries.{placesOf};
 ghost use Rattle.bodies.specs.Check.{checkOf};
 ghost use Rattle.decimal.specs.Writing.{sizeText, numberText, Wrote};
-ghost use Rattle.lines.specs.Lines.{isForm, lineOf, ended, answerLine, verdictLine, unknownLine, answerText, lineRoom, writtenOf, afterLine};
-
-// What a line asks: the form's letter, and its two numbers. A line of no known form has form 0 and zeros.
-pub struct Line {
-    pub form: u8,
-    pub first: i32,
-    pub second: i32,
-}
+ghost use Rattle.lines.specs.Lines.{ended, answerLine, verdictLine, unknownLine, answerText, lineRoom, writtenOf, afterLine};
 
 // What was written: 0 and how many bytes, or 17 and 0.
 pub struct Written {
@@ -21,66 +18,10 @@ pub struct Written {
     pub length: usize,
 }
 
-const BLANK: u8 = 32;
-
 const LINE_FEED: u8 = 10;
-
-const FORWARD: u8 = 71; // G
-
-const INVERSE: u8 = 80; // P
-
-const SCALE: u8 = 83; // S
 
 // Room for any line that is written: three numbers of at most 21 bytes, with a byte after each.
 pub const LINE_ROOM: usize = 66;
-
-// ---- what a line asks
-
-// Whether a byte is a form's letter.
-fn is_form(b: u8) -> bool
-    ensures { λ r. ⌜ r ≡ isForm b ⌝ }
-{
-    (b == FORWARD) | (b == INVERSE) | (b == SCALE)
-}
-
-// What the line asks.
-pub fn line_of(line: &[u8]) -> Line
-    ensures { λ r. ⌜ r ≡ lineOf (now (line .entry)) ⌝ }
-{
-    let none = Line {
-        form: 0,
-        first: 0,
-        second: 0,
-    };
-    let form = decimal::byte_at(line, 0);
-    if !is_form(form) {
-        return none;
-    }
-    if decimal::byte_at(line, 1) != BLANK {
-        return none;
-    }
-    let first = decimal::number_at(line, 2);
-    let length = first.length;
-    if length == 0 {
-        return none;
-    }
-    if decimal::byte_at(line, 2 + length) != BLANK {
-        return none;
-    }
-    let second = decimal::number_at(line, 3 + length);
-    let rest = second.length;
-    if rest == 0 {
-        return none;
-    }
-    if 3 + length + rest != line.len() {
-        return none;
-    }
-    Line {
-        form,
-        first: first.value,
-        second: second.value,
-    }
-}
 
 // ---- what is printed
 
@@ -135,7 +76,7 @@ pub fn answer(s: &[u8], p: Places, line: &[u8], out: &mut [u8], at: usize) -> us
     requires { ⌜ (checkOf (now s) .number ≡ 0) × (p ≡ placesOf (now s)) × (at + lineRoom ≤ length (now out)) ⌝ }
     ensures { λ r. ⌜ (r ≤ at + lineRoom) × Wrote (now (out .entry)) (now (out .exit)) at r (answerText (now (s .entry)) (now (line .entry))) ⌝ }
 {
-    let l = line_of(line);
+    let l = asked::line_of(line);
     let form = l.form;
     if form == FORWARD {
         let r = forward::forward(s, p, l.first, l.second);
@@ -157,7 +98,7 @@ fn checked_answer(sheet: &[u8], line: &[u8], out: &mut [u8]) -> usize
     requires { ⌜ lineRoom ≤ length (now out) ⌝ }
     ensures { λ r. ⌜ Wrote (now (out .entry)) (now (out .exit)) 0 r (answerText (now (sheet .entry)) (now (line .entry))) ⌝ }
 {
-    let l = line_of(line);
+    let l = asked::line_of(line);
     let form = l.form;
     if form == FORWARD {
         let r = convert::geographic_to_plane(sheet, l.first, l.second);

@@ -42,8 +42,8 @@ use Rattle.door.proofs.feet.Kinds as feet-kinds
 use Rattle.door.proofs.feet.Reads as feet-reads
 use Rattle.lines.proofs.answer_line.Kinds as line-kinds
 use Rattle.lines.proofs.answer_line.Reads as line-reads
-use Rattle.lines.proofs.line_of.Kinds as asked-kinds
-use Rattle.lines.proofs.line_of.Reads as asked-reads
+use Rattle.asked.proofs.line_of.Kinds as asked-kinds
+use Rattle.asked.proofs.line_of.Reads as asked-reads
 use Rattle.decimal.proofs.byte_at.Kinds as byte-kinds
 use Rattle.decimal.proofs.byte_at.Reads as byte-reads
 use Rattle.decimal.proofs.number_at.Kinds as number-kinds
@@ -127,7 +127,7 @@ pub one-line : (κs : Lfts 3) (given : Dens κs line-kinds.ps) (r t : resT line-
     → line-reads.Learnt κs given r x → line-reads.Learnt κs given t y → (r ≡ t) × (now (x .1 .1 .0) ≡ now (y .1 .1 .0))
 one-line κs given r t x y p q = (p .0 ∙ sym (q .0), p .1 ∙ sym (q .1))
 
--- `lines::line_of`
+-- `asked::line_of`
 pub one-asked : (κs : Lfts 1) (given : Dens κs asked-kinds.ps) (r t : resT asked-kinds.r κs .Denot) (x y : AtExit (endedOf 1 asked-kinds.ps asked-kinds.r) κs)
     → asked-reads.Learnt κs given r x → asked-reads.Learnt κs given t y → r ≡ t
 one-asked κs given r t x y p q = p ∙ sym q

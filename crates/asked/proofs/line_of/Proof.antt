@@ -1,13 +1,13 @@
--- `lines::line_of` meets its contract: each test of the line is a rung of its definition. Assumes nothing.
+-- `asked::line_of` meets its contract: each test of the line is a rung of its definition. Assumes nothing.
 use mathlib.Core.Path.{_≡_}
 use denote.Ref.{now}
 use mir.Facts.{toZ-ofZ}
 use mir.Syntax.{w32}
 use mir.Val.{toZ, ofZ}
-use Rattle.lines.proofs.Forms.{no-form, no-blank, no-first, no-second-blank, no-second, more-bytes, all-read}
+use Rattle.asked.proofs.Forms.{no-form, no-blank, no-first, no-second-blank, no-second, more-bytes, all-read}
 use borrow.Author.Needs.{needs, sfits-of}
-use Rattle.lines.proofs.line_of.Statement.{statement}
-use Rattle.lines.proofs.line_of.Tie as tie
+use Rattle.asked.proofs.line_of.Statement.{statement}
+use Rattle.asked.proofs.line_of.Tie as tie
 
 byte-at-requires : tie.Need-byte-at-requires
 byte-at-requires c κs = search needs

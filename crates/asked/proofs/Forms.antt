@@ -11,8 +11,8 @@ use Rattle.words.specs.Ladder.{need}
 use Rattle.decimal.specs.declared.Number.{Number}
 use Rattle.decimal.specs.Reading.{numberOf}
 use Rattle.decimal.proofs.NumbersRead.{number-most}
-use Rattle.lines.specs.declared.Line.{Line}
-use Rattle.lines.specs.Lines.{isForm, firstOf, secondOf, asks, unknown, lineOf}
+use Rattle.asked.specs.declared.Line.{Line}
+use Rattle.asked.specs.Asked.{isForm, firstOf, secondOf, asks, unknown, lineOf}
 
 -- ---- a form's letter
 pub form-is : (b : ℕ) → (eqb b 71 || eqb b 80) || eqb b 83 ≡ isForm b

@@ -1,0 +1,64 @@
+// What a line of the points program asks: a form's letter and two numbers.
+ghost use mathlib.Core.Path.{_≡_};
+ghost use Rattle.asked.specs.Asked.{isForm, lineOf};
+
+// What a line asks: the form's letter, and its two numbers. A line of no known form has form 0 and zeros.
+pub struct Line {
+    pub form: u8,
+    pub first: i32,
+    pub second: i32,
+}
+
+pub const BLANK: u8 = 32;
+
+pub const FORWARD: u8 = 71; // G
+
+pub const INVERSE: u8 = 80; // P
+
+pub const SCALE: u8 = 83; // S
+
+// Whether a byte is a form's letter.
+fn is_form(b: u8) -> bool
+    ensures { λ r. ⌜ r ≡ isForm b ⌝ }
+{
+    (b == FORWARD) | (b == INVERSE) | (b == SCALE)
+}
+
+// What the line asks.
+pub fn line_of(line: &[u8]) -> Line
+    ensures { λ r. ⌜ r ≡ lineOf (now (line .entry)) ⌝ }
+{
+    let none = Line {
+        form: 0,
+        first: 0,
+        second: 0,
+    };
+    let form = decimal::byte_at(line, 0);
+    if !is_form(form) {
+        return none;
+    }
+    if decimal::byte_at(line, 1) != BLANK {
+        return none;
+    }
+    let first = decimal::number_at(line, 2);
+    let length = first.length;
+    if length == 0 {
+        return none;
+    }
+    if decimal::byte_at(line, 2 + length) != BLANK {
+        return none;
+    }
+    let second = decimal::number_at(line, 3 + length);
+    let rest = second.length;
+    if rest == 0 {
+        return none;
+    }
+    if 3 + length + rest != line.len() {
+        return none;
+    }
+    Line {
+        form,
+        first: first.value,
+        second: second.value,
+    }
+}
