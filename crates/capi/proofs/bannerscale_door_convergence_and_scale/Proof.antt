@@ -1,0 +1,19 @@
+-- `capi::bannerscale_door_convergence_and_scale` answers what the door does. Assumes nothing.
+use mathlib.Core.Path.{ap, _∙_}
+use Rattle.capi.specs.Answers.{doorAnswer}
+use borrow.Author.Needs.{needs}
+use Rattle.capi.proofs.bannerscale_door_convergence_and_scale.Statement.{statement}
+use Rattle.capi.proofs.bannerscale_door_convergence_and_scale.Tie as tie
+
+convergence-and-scale-requires : tie.Need-convergence-and-scale-requires
+convergence-and-scale-requires c κs = search needs
+
+told-requires : tie.Need-told-requires
+told-requires c κs = search needs
+
+returns : tie.Need-returns
+returns c = c .told .ensures ∙ ap doorAnswer (c .before .convergence-and-scale .ensures)
+
+pub bannerscale-door-convergence-and-scale-spec : {M : Type 1} → statement M
+bannerscale-door-convergence-and-scale-spec =
+    tie.close (tie.spec convergence-and-scale-requires told-requires returns)

@@ -1,0 +1,19 @@
+-- `capi::bannerscale_door_geographic_to_plane` answers what the door does. Assumes nothing.
+use mathlib.Core.Path.{ap, _∙_}
+use Rattle.capi.specs.Answers.{doorAnswer}
+use borrow.Author.Needs.{needs}
+use Rattle.capi.proofs.bannerscale_door_geographic_to_plane.Statement.{statement}
+use Rattle.capi.proofs.bannerscale_door_geographic_to_plane.Tie as tie
+
+geographic-to-plane-requires : tie.Need-geographic-to-plane-requires
+geographic-to-plane-requires c κs = search needs
+
+told-requires : tie.Need-told-requires
+told-requires c κs = search needs
+
+returns : tie.Need-returns
+returns c = c .told .ensures ∙ ap doorAnswer (c .before .geographic-to-plane .ensures)
+
+pub bannerscale-door-geographic-to-plane-spec : {M : Type 1} → statement M
+bannerscale-door-geographic-to-plane-spec =
+    tie.close (tie.spec geographic-to-plane-requires told-requires returns)

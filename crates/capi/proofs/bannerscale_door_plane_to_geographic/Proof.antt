@@ -1,0 +1,19 @@
+-- `capi::bannerscale_door_plane_to_geographic` answers what the door does. Assumes nothing.
+use mathlib.Core.Path.{ap, _∙_}
+use Rattle.capi.specs.Answers.{doorAnswer}
+use borrow.Author.Needs.{needs}
+use Rattle.capi.proofs.bannerscale_door_plane_to_geographic.Statement.{statement}
+use Rattle.capi.proofs.bannerscale_door_plane_to_geographic.Tie as tie
+
+plane-to-geographic-requires : tie.Need-plane-to-geographic-requires
+plane-to-geographic-requires c κs = search needs
+
+told-requires : tie.Need-told-requires
+told-requires c κs = search needs
+
+returns : tie.Need-returns
+returns c = c .told .ensures ∙ ap doorAnswer (c .before .plane-to-geographic .ensures)
+
+pub bannerscale-door-plane-to-geographic-spec : {M : Type 1} → statement M
+bannerscale-door-plane-to-geographic-spec =
+    tie.close (tie.spec plane-to-geographic-requires told-requires returns)

@@ -1,0 +1,2 @@
+-- The definitions of the library for C: what each answer is as a C struct.
+pub mod Answers
