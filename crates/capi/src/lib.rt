@@ -86,7 +86,11 @@ pub extern "C" fn bannerscale_check(sheet: &[u8]) -> CheckAnswer
 }
 
 #[no_mangle]
-pub extern "C" fn bannerscale_geographic_to_plane(sheet: &[u8], latitude: i32, longitude: i32) -> PlaneAnswer
+pub extern "C" fn bannerscale_geographic_to_plane(
+    sheet: &[u8],
+    latitude: i32,
+    longitude: i32,
+) -> PlaneAnswer
     ensures { λ r. ⌜ r ≡ planeAnswer (geographicToPlane (now (sheet .entry)) latitude longitude) ⌝ }
 {
     let r = convert::geographic_to_plane(sheet, latitude, longitude);
@@ -124,7 +128,14 @@ pub extern "C" fn bannerscale_convergence_and_scale(sheet: &[u8], x: i32, y: i32
 // ---- corrections
 
 #[no_mangle]
-pub extern "C" fn bannerscale_correct(sheet: &mut [u8], minute: i32, y0: i32, h: i32, v: i32, a: i32) -> u32
+pub extern "C" fn bannerscale_correct(
+    sheet: &mut [u8],
+    minute: i32,
+    y0: i32,
+    h: i32,
+    v: i32,
+    a: i32,
+) -> u32
     ensures answer { λ r. ⌜ r ≡ correctionOf (now (sheet .entry)) minute (figures y0 h v a) ⌝ }
     ensures memory { λ _. ⌜ now (sheet .exit) ≡ correctedOf (now (sheet .entry)) minute (figures y0 h v a) ⌝ }
 {
@@ -132,7 +143,12 @@ pub extern "C" fn bannerscale_correct(sheet: &mut [u8], minute: i32, y0: i32, h:
 }
 
 #[no_mangle]
-pub extern "C" fn bannerscale_geographic_touched(sheet: &[u8], minute: i32, latitude: i32, longitude: i32) -> TouchAnswer
+pub extern "C" fn bannerscale_geographic_touched(
+    sheet: &[u8],
+    minute: i32,
+    latitude: i32,
+    longitude: i32,
+) -> TouchAnswer
     ensures { λ r. ⌜ r ≡ touchAnswer (geographicTouched (now (sheet .entry)) minute latitude longitude) ⌝ }
 {
     let t = touched::geographic_touched(sheet, minute, latitude, longitude);
@@ -143,7 +159,12 @@ pub extern "C" fn bannerscale_geographic_touched(sheet: &[u8], minute: i32, lati
 }
 
 #[no_mangle]
-pub extern "C" fn bannerscale_plane_touched(sheet: &[u8], minute: i32, x: i32, y: i32) -> TouchAnswer
+pub extern "C" fn bannerscale_plane_touched(
+    sheet: &[u8],
+    minute: i32,
+    x: i32,
+    y: i32,
+) -> TouchAnswer
     ensures { λ r. ⌜ r ≡ touchAnswer (planeTouched (now (sheet .entry)) minute x y) ⌝ }
 {
     let t = touched::plane_touched(sheet, minute, x, y);
@@ -156,7 +177,11 @@ pub extern "C" fn bannerscale_plane_touched(sheet: &[u8], minute: i32, x: i32, y
 // ---- many points
 
 #[no_mangle]
-pub extern "C" fn bannerscale_batch(sheet: &[u8], points: &[i32], answers: &mut [i32]) -> BatchAnswer
+pub extern "C" fn bannerscale_batch(
+    sheet: &[u8],
+    points: &[i32],
+    answers: &mut [i32],
+) -> BatchAnswer
     ensures answer { λ r. ⌜ r ≡ batchAnswer (batchOf (now (sheet .entry)) (now (points .entry)) (now (answers .entry))) ⌝ }
     ensures memory { λ _. ⌜ now (answers .exit) ≡ answersOf (now (sheet .entry)) (now (points .entry)) (now (answers .entry)) ⌝ }
 {
@@ -214,7 +239,10 @@ pub extern "C" fn bannerscale_door_plane_to_geographic(sheet: &[u8], point: Door
 }
 
 #[no_mangle]
-pub extern "C" fn bannerscale_door_convergence_and_scale(sheet: &[u8], point: DoorPoint) -> DoorAnswer
+pub extern "C" fn bannerscale_door_convergence_and_scale(
+    sheet: &[u8],
+    point: DoorPoint,
+) -> DoorAnswer
     ensures { λ r. ⌜ r ≡ doorAnswer (toGrid (now (sheet .entry)) (doorPoint point)) ⌝ }
 {
     told(door::convergence_and_scale(
