@@ -1,8 +1,7 @@
 // The points program, a filter. Standard input: the name of the sheet's file, then a line for each point. Standard output: the check's answer and, where it is 0, an
 // answer for each line.
-use blocks::LINE_FEED;
 use entries::Places;
-use libc::STDIN_FILENO;
+use files::MOST_NAME;
 use libc::STDOUT_FILENO;
 ghost use mathlib.Core.Path.{_≡_};
 ghost use Prim.Native.Nat.{_+_, _-_, _≤_, _<_};
@@ -10,15 +9,6 @@ ghost use lib.ListN.{length};
 ghost use Rattle.entries.specs.Entries.{placesOf};
 ghost use Rattle.bodies.specs.Check.{checkOf};
 ghost use Rattle.lines.specs.Lines.{lineRoom};
-
-// The most bytes of a file's name. A line of a known form has less.
-const MOST_NAME: usize = 255;
-
-// What a read gave: whether it failed, and how many bytes, 0 at the end.
-struct Got {
-    failed: bool,
-    count: usize,
-}
 
 // Where a block of lines ends: the place behind its last line feed, and the place in the output.
 struct Rest {
@@ -32,89 +22,6 @@ struct State {
     kept: usize,
     long: bool,
     at: usize,
-}
-
-// ---- reading
-
-// One read into buf from `from` on.
-fn read_part(fd: i32, buf: &mut [u8], from: usize) -> Got
-    requires { ⌜ from ≤ length (now buf) ⌝ }
-    ensures { λ r. ⌜ from + r .count ≤ length (now (buf .exit)) ⌝ }
-{
-    let end = buf.len();
-    let got = libc::read(fd, &mut buf[from..end]);
-    if got < 0 {
-        return Got {
-            failed: true,
-            count: 0,
-        };
-    }
-    Got {
-        failed: false,
-        count: got as usize,
-    }
-}
-
-// How many bytes a read of standard input put into the buffer from `from` on, 0 at its end.
-fn read_more(input: &mut [u8], from: usize) -> usize
-    requires { ⌜ from ≤ length (now input) ⌝ }
-    ensures { λ r. ⌜ from + r ≤ length (now (input .exit)) ⌝ }
-{
-    read_part(STDIN_FILENO, input, from).count
-}
-
-// The file's bytes in the buffer, as far as it reaches; none where a read fails.
-fn read_sheet(fd: i32, sheet: &mut [u8]) -> usize
-    ensures { λ r. ⌜ r ≤ length (now (sheet .exit)) ⌝ }
-{
-    let mut done = 0;
-    while done < sheet.len() {
-        let got = read_part(fd, sheet, done);
-        if got.failed {
-            return 0;
-        }
-        let count = got.count;
-        if count == 0 {
-            return done;
-        }
-        done += count;
-    }
-    done
-}
-
-// The named file's bytes in the buffer; none where the name is too long or has a zero byte, or the file cannot be read.
-fn load(name: &[u8], sheet: &mut [u8]) -> usize
-    ensures { λ r. ⌜ r ≤ length (now (sheet .exit)) ⌝ }
-{
-    if MOST_NAME < name.len() {
-        return 0;
-    }
-    let fd = os::open_read(name);
-    if fd < 0 {
-        return 0;
-    }
-    let size = read_sheet(fd, sheet);
-    libc::close(fd);
-    size
-}
-
-// Reads until the first line has ended, the buffer is full or the input ends; how many bytes it then holds.
-fn read_name(input: &mut [u8]) -> usize
-    ensures { λ r. ⌜ r ≤ length (now (input .exit)) ⌝ }
-{
-    let mut n = 0;
-    while n < input.len() {
-        let got = read_more(input, n);
-        if got == 0 {
-            return n;
-        }
-        let end = n + got;
-        if bytes::scan::find(input, n, end, LINE_FEED) < end {
-            return end;
-        }
-        n = end;
-    }
-    n
 }
 
 // ---- answering
@@ -208,7 +115,7 @@ fn end_long(
     requires { ⌜ (checkOf (now sheet) .number ≡ 0) × (p ≡ placesOf (now sheet)) × (to ≤ length (now input)) × (at + lineRoom ≤ length (now out)) ⌝ }
     ensures { λ r. ⌜ (r .kept < 256) × (r .at + lineRoom ≤ length (now (out .exit))) ⌝ }
 {
-    let end = bytes::scan::find(input, 0, to, LINE_FEED);
+    let end = files::line_end(input, 0, to);
     if end == to {
         return State {
             kept: 0,
@@ -273,7 +180,7 @@ fn answer_input(
     let mut turns = u64::MAX;
     while 0 < turns {
         let kept = s.kept;
-        let got = read_more(input, kept);
+        let got = files::read_more(input, kept);
         if got == 0 {
             let end = answer_last(sheet, p, input, s, out);
             io::write_all(STDOUT_FILENO, &out[0..end]);
@@ -282,17 +189,6 @@ fn answer_input(
         s = answer_next(sheet, p, input, kept + got, s, out);
         turns -= 1;
     }
-}
-
-// The place behind a line that ends at `end` of n bytes.
-fn behind(end: usize, n: usize) -> usize
-    requires { ⌜ end ≤ n ⌝ }
-    ensures { λ r. ⌜ r ≤ n ⌝ }
-{
-    if end < n {
-        return end + 1;
-    }
-    n
 }
 
 // Prints the check's answer and, where it is 0, the answers to the lines behind the name, which ends at `end` of the input's first n bytes.
@@ -306,7 +202,7 @@ fn run(sheet: &[u8], input: &mut [u8], end: usize, n: usize, out: &mut [u8])
         io::write_all(STDOUT_FILENO, &out[0..at]);
         return;
     }
-    let from = behind(end, n);
+    let from = files::behind(end, n);
     answer_input(sheet, entries::places_of(sheet), input, from, n, out, at);
 }
 
@@ -314,8 +210,8 @@ fn main() {
     let mut sheet = [0u8; 65536];
     let mut input = [0u8; 65536];
     let mut out = [0u8; 65536];
-    let n = read_name(&mut input);
-    let end = bytes::scan::find(&input, 0, n, LINE_FEED);
-    let size = load(&input[0..end], &mut sheet);
+    let n = files::read_lines(&mut input, 1);
+    let end = files::line_end(&input, 0, n);
+    let size = files::load(&input[0..end], &mut sheet);
     run(&sheet[0..size], &mut input, end, n, &mut out);
 }

@@ -46,7 +46,7 @@ answer-input-requires c κs =
     let read = c .before .before .before in
     let start = read .before .before .before .before .before .before .before .before .before .before in
     let put = read .before .before .before .before .put-verdict in
-    (passes (read .before), c .before .before .places-of .ensures, read .behind .ensures, start .pre .1, start .pre .2, omega (arith, put .ensures .0, put .kept .0, start .pre .3))
+    (passes (read .before), c .before .before .places-of .ensures, read .behind .ensures .1, start .pre .1, start .pre .2, omega (arith, put .ensures .0, put .kept .0, start .pre .3))
 
 same-length-2 : tie.Need-same-length-2
 same-length-2 c = search needs

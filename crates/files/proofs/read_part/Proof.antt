@@ -1,13 +1,13 @@
--- `points::read_part` meets its contract. Assumes nothing.
+-- `files::read_part` meets its contract. Assumes nothing.
 use mathlib.Core.Path.{_≡_}
 use native.Mathlib.Omega.{arith}
 use denote.Ref.{now}
 use mir.Syntax.{w64}
 use mir.Val.{toZ, ofZ}
-use Rattle.points.proofs.Moves.{moved-part, moved-size}
+use Rattle.files.proofs.Moves.{moved-part, moved-size}
 use borrow.Author.Needs.{needs}
-use Rattle.points.proofs.read_part.Statement.{statement}
-use Rattle.points.proofs.read_part.Tie as tie
+use Rattle.files.proofs.read_part.Statement.{statement}
+use Rattle.files.proofs.read_part.Tie as tie
 
 value : (c : tie.After-read) → toZ w64 (ofZ w64 (c .read .result)) ≡ c .read .result
 value c = search needs

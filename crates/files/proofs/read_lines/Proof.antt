@@ -1,22 +1,22 @@
--- `points::read_sheet` meets its contract. Assumes nothing.
+-- `files::read_lines` meets its contract. Assumes nothing.
 use borrow.Author.Needs.{needs}
 use mathlib.Core.Path.{_≡_}
 use Prim.Native.Nat.{_-_, _≤_}
 use lib.ListN.{length}
-use Rattle.points.proofs.read_sheet.Statement.{statement}
-use Rattle.points.proofs.read_sheet.Tie as tie
+use Rattle.files.proofs.read_lines.Statement.{statement}
+use Rattle.files.proofs.read_lines.Tie as tie
 
 abbrev Inv-loop : tie.InvT-loop
-Inv-loop fd sheet₀ done₀ sheet done = (done ≤ length sheet) × (length sheet ≡ length sheet₀)
+Inv-loop input₀ k n₀ left₀ input n left = (n ≤ length input) × (length input ≡ length input₀)
 
 abbrev μ-loop : tie.MeasureT-loop
-μ-loop fd sheet₀ done₀ sheet done = length sheet - done
+μ-loop input₀ k n₀ left₀ input n left = length input - n
 
 loop-holds : tie.Need-loop-holds Inv-loop μ-loop
 loop-holds c = search needs
 
-read-part-requires : tie.Need-read-part-requires Inv-loop μ-loop
-read-part-requires c κs = search needs
+read-more-requires : tie.Need-read-more-requires Inv-loop μ-loop
+read-more-requires c κs = search needs
 
 same-length : tie.Need-same-length Inv-loop μ-loop
 same-length c = search needs
@@ -24,14 +24,17 @@ same-length c = search needs
 returns : tie.Need-returns Inv-loop μ-loop
 returns c = search needs
 
+add-end : tie.Need-add-end Inv-loop μ-loop
+add-end c = search needs
+
+feeds-left-requires : tie.Need-feeds-left-requires Inv-loop μ-loop
+feeds-left-requires c κs = search needs
+
 same-length-2 : tie.Need-same-length-2 Inv-loop μ-loop
 same-length-2 c = search needs
 
 returns-2 : tie.Need-returns-2 Inv-loop μ-loop
 returns-2 c = search needs
-
-add-done : tie.Need-add-done Inv-loop μ-loop
-add-done c = search needs
 
 loop-less : tie.Need-loop-less Inv-loop μ-loop
 loop-less c = search needs
@@ -45,19 +48,20 @@ same-length-3 c = search needs
 returns-3 : tie.Need-returns-3 Inv-loop μ-loop
 returns-3 c = search needs
 
-pub read-sheet-spec : {M : Type 1} → statement M
-read-sheet-spec =
+pub read-lines-spec : {M : Type 1} → statement M
+read-lines-spec =
     tie.close
     (tie.spec
     Inv-loop
     μ-loop
     loop-holds
-    read-part-requires
+    read-more-requires
     same-length
     returns
+    add-end
+    feeds-left-requires
     same-length-2
     returns-2
-    add-done
     loop-less
     loop-again
     same-length-3

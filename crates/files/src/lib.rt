@@ -1,0 +1,139 @@
+// What a program reads: the bytes of a file whose name a line of its input gives, and its standard input, into lent memory. No contract can say what is read: each says how far it reaches.
+use libc::STDIN_FILENO;
+ghost use Prim.Native.Nat.{_+_, _≤_};
+ghost use lib.ListN.{length};
+
+// The most bytes of a file's name. A line of a known form has less.
+pub const MOST_NAME: usize = 255;
+
+const LINE_FEED: u8 = 10;
+
+// What a read gave: whether it failed, and how many bytes, 0 at the end.
+struct Got {
+    failed: bool,
+    count: usize,
+}
+
+// One read into buf from `from` on.
+fn read_part(fd: i32, buf: &mut [u8], from: usize) -> Got
+    requires { ⌜ from ≤ length (now buf) ⌝ }
+    ensures { λ r. ⌜ from + r .count ≤ length (now (buf .exit)) ⌝ }
+{
+    let end = buf.len();
+    let got = libc::read(fd, &mut buf[from..end]);
+    if got < 0 {
+        return Got {
+            failed: true,
+            count: 0,
+        };
+    }
+    Got {
+        failed: false,
+        count: got as usize,
+    }
+}
+
+// ---- a file
+
+// The file's bytes in the buffer, as far as it reaches; none where a read fails.
+fn read_sheet(fd: i32, sheet: &mut [u8]) -> usize
+    ensures { λ r. ⌜ r ≤ length (now (sheet .exit)) ⌝ }
+{
+    let mut done = 0;
+    while done < sheet.len() {
+        let got = read_part(fd, sheet, done);
+        if got.failed {
+            return 0;
+        }
+        let count = got.count;
+        if count == 0 {
+            return done;
+        }
+        done += count;
+    }
+    done
+}
+
+// The named file's bytes in the buffer; none where the name is too long or has a zero byte, or the file cannot be read.
+pub fn load(name: &[u8], sheet: &mut [u8]) -> usize
+    ensures { λ r. ⌜ r ≤ length (now (sheet .exit)) ⌝ }
+{
+    if MOST_NAME < name.len() {
+        return 0;
+    }
+    let fd = os::open_read(name);
+    if fd < 0 {
+        return 0;
+    }
+    let size = read_sheet(fd, sheet);
+    libc::close(fd);
+    size
+}
+
+// ---- standard input
+
+// How many bytes a read of standard input put into the buffer from `from` on, 0 at its end.
+pub fn read_more(input: &mut [u8], from: usize) -> usize
+    requires { ⌜ from ≤ length (now input) ⌝ }
+    ensures { λ r. ⌜ from + r ≤ length (now (input .exit)) ⌝ }
+{
+    read_part(STDIN_FILENO, input, from).count
+}
+
+// The place of the line feed that ends the line from `from` on, `to` where none stands before it.
+pub fn line_end(input: &[u8], from: usize, to: usize) -> usize
+    requires { ⌜ (from ≤ to) × (to ≤ length (now input)) ⌝ }
+    ensures { λ r. ⌜ (from ≤ r) × (r ≤ to) ⌝ }
+{
+    bytes::scan::find(input, from, to, LINE_FEED)
+}
+
+// The place behind a line that ends at `end` of n bytes.
+pub fn behind(end: usize, n: usize) -> usize
+    requires { ⌜ end ≤ n ⌝ }
+    ensures { λ r. ⌜ (end ≤ r) × (r ≤ n) ⌝ }
+{
+    if end < n {
+        return end + 1;
+    }
+    n
+}
+
+// How many of k line feeds are still to come after the bytes from `from` up to `to`.
+fn feeds_left(input: &[u8], from: usize, to: usize, k: usize) -> usize
+    requires { ⌜ (from ≤ to) × (to ≤ length (now input)) ⌝ }
+    ensures { λ r. ⌜ r ≤ k ⌝ }
+{
+    let mut i = from;
+    let mut left = k;
+    while 0 < left {
+        let end = line_end(input, i, to);
+        if end == to {
+            return left;
+        }
+        i = end + 1;
+        left -= 1;
+    }
+    0
+}
+
+// Reads until the first k lines have ended, the buffer is full or the input ends; how many bytes it then holds.
+pub fn read_lines(input: &mut [u8], k: usize) -> usize
+    ensures { λ r. ⌜ r ≤ length (now (input .exit)) ⌝ }
+{
+    let mut n = 0;
+    let mut left = k;
+    while n < input.len() {
+        let got = read_more(input, n);
+        if got == 0 {
+            return n;
+        }
+        let end = n + got;
+        left = feeds_left(input, n, end, left);
+        if left == 0 {
+            return end;
+        }
+        n = end;
+    }
+    n
+}
