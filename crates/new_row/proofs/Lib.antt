@@ -1,0 +1,2 @@
+-- Laws of the correction's line.
+pub mod Fields

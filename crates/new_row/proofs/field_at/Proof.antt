@@ -1,0 +1,41 @@
+-- `new_row::field_at` meets its contract. Assumes nothing.
+use mathlib.Core.Path.{_≡_}
+use denote.Ref.{now}
+use mir.Syntax.{w32}
+use mir.Val.{toZ, ofZ}
+use borrow.Author.Needs.{needs}
+use native.Mathlib.Omega.{arith}
+use Rattle.new_row.proofs.Fields.{field-is}
+use native.Mathlib.Omega.{arith}
+use Rattle.new_row.proofs.Fields.{field-is}
+use native.Mathlib.Omega.{arith}
+use Rattle.new_row.proofs.Fields.{field-is}
+use Rattle.new_row.proofs.Fields.{field-is}
+use Rattle.new_row.proofs.field_at.Statement.{statement}
+use Rattle.new_row.proofs.field_at.Tie as tie
+
+number-at-requires : tie.Need-number-at-requires
+number-at-requires c κs = search needs
+
+add-byte-at : tie.Need-add-byte-at
+add-byte-at c = search needs
+
+byte-at-requires : tie.Need-byte-at-requires
+byte-at-requires c κs = search needs
+
+add-t10 : tie.Need-add-t10
+add-t10 c = search needs
+
+add-t11 : tie.Need-add-t11
+add-t11 c = search needs
+
+returns : tie.Need-returns
+returns c =
+    let n = c .before .before .number-at in
+    let start = c .before .before .before .before in
+    let value : toZ w32 (ofZ w32 (n .result .value)) ≡ n .result .value = search needs in
+    (rw value (field-is (now (start .args .line)) (start .args .at) _ _ (n .ensures .0) (c .before .byte-at .ensures)), omega (arith, n .ensures .1))
+
+pub field-at-spec : {M : Type 1} → statement M
+field-at-spec =
+    tie.close (tie.spec number-at-requires add-byte-at byte-at-requires add-t10 add-t11 returns)
