@@ -4,3 +4,4 @@ pub mod OneAnswer
 pub mod AnswersFit
 pub mod SizesAndSigns
 pub mod Corrections
+pub mod OneAnswerForC

@@ -48,6 +48,10 @@ use Rattle.decimal.proofs.byte_at.Kinds as byte-kinds
 use Rattle.decimal.proofs.byte_at.Reads as byte-reads
 use Rattle.decimal.proofs.number_at.Kinds as number-kinds
 use Rattle.decimal.proofs.number_at.Reads as number-reads
+use Rattle.new_row.proofs.row_of.Kinds as row-kinds
+use Rattle.new_row.proofs.row_of.Reads as row-reads
+use Rattle.new_row.proofs.correct_by.Kinds as row-line-kinds
+use Rattle.new_row.proofs.correct_by.Reads as row-line-reads
 use Rattle.reader.specs.declared.Reader.{Reader}
 use Rattle.reader.proofs.new as new
 use Rattle.reader.proofs.moved as moved
@@ -141,6 +145,16 @@ one-byte κs given r t x y p q = p ∙ sym q
 pub one-number : (κs : Lfts 1) (given : Dens κs number-kinds.ps) (r t : resT number-kinds.r κs .Denot) (x y : AtExit (endedOf 1 number-kinds.ps number-kinds.r) κs)
     → number-reads.Learnt κs given r x → number-reads.Learnt κs given t y → r ≡ t
 one-number κs given r t x y p q = p .0 ∙ sym (q .0)
+
+-- `new_row::row_of`
+pub one-row : (κs : Lfts 1) (given : Dens κs row-kinds.ps) (r t : resT row-kinds.r κs .Denot) (x y : AtExit (endedOf 1 row-kinds.ps row-kinds.r) κs)
+    → row-reads.Learnt κs given r x → row-reads.Learnt κs given t y → r ≡ t
+one-row κs given r t x y p q = p ∙ sym q
+
+-- `new_row::correct_by`: one number, and one content of the lent sheet
+pub one-row-line : (κs : Lfts 2) (given : Dens κs row-line-kinds.ps) (r t : resT row-line-kinds.r κs .Denot) (x y : AtExit (endedOf 2 row-line-kinds.ps row-line-kinds.r) κs)
+    → row-line-reads.Learnt κs given r x → row-line-reads.Learnt κs given t y → (r ≡ t) × (now (x .0) ≡ now (y .0))
+one-row-line κs given r t x y p q = (p .0 ∙ sym (q .0), p .1 ∙ sym (q .1))
 
 -- `reader::entry_at`
 pub one-entry-at : (κs : Lfts 1) (given : Dens κs at-kinds.ps) (r t : resT at-kinds.r κs .Denot) (x y : AtExit (endedOf 1 at-kinds.ps at-kinds.r) κs)
