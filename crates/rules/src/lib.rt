@@ -30,12 +30,19 @@ pub fn in_range(least: i32, x: i32, most: i32) -> bool
     (least <= x) & (x <= most)
 }
 
+// The rise from a row's figure x to the next row's. Both are raised first: sign-extended, a figure just read from the sheet would be put together byte by byte.
+fn rise(x: i32, next: i32) -> i64
+    ensures { λ r. ⌜ r ≡ next -ℤ x ⌝ }
+{
+    (words::raised(next) as i64) - (words::raised(x) as i64)
+}
+
 // Whether a row's figure x rises to the next row's by least to most.
 pub fn rises(x: i32, next: i32, least: i32, most: i32) -> bool
     ensures { λ r. ⌜ r ≡ rises x next least most ⌝ }
 {
-    let rise = (next as i64) - (x as i64);
-    ((least as i64) <= rise) & (rise <= (most as i64))
+    let up = rise(x, next);
+    ((least as i64) <= up) & (up <= (most as i64))
 }
 
 // Whether x is y.
@@ -70,7 +77,7 @@ fn over_minute(scale: u64, x: i32, next: i32) -> i32
     requires { ⌜ (scale ≤ mostScale) × (natAbs (next -ℤ x) ≤ mostChange) ⌝ }
     ensures { λ r. ⌜ r ≡ perSecond scale (next -ℤ x) ⌝ }
 {
-    figures::per_second(scale, (next as i64) - (x as i64)) as i32
+    figures::per_second(scale, rise(x, next)) as i32
 }
 
 // The differences of a row from its figures and the next row's, which are within their bounds.

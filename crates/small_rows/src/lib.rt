@@ -15,15 +15,22 @@ fn word_in(b: &[u8], at: usize, least: i32, most: i32) -> bool
     rules::in_range(least, words::word(b, at), most)
 }
 
-// Whether word at is 0, where it is of row 0.
-fn zero_first(b: &[u8], at: usize, i: usize) -> bool
-    requires { ⌜ 4 * at + 4 ≤ length (now b) ⌝ }
-    ensures { λ r. ⌜ r ≡ zeroFirst (wordAt (now (b .entry)) at) i ⌝ }
+// Whether word at, which may not be negative, is at most most: read without its sign, one below zero is above every limit.
+fn size_in(b: &[u8], at: usize, most: u32) -> bool
+    requires { ⌜ (4 * at + 4 ≤ length (now b)) × (most < 2_147_483_648) ⌝ }
+    ensures { λ r. ⌜ r ≡ inRange (pos 0) (wordAt (now (b .entry)) at) (pos most) ⌝ }
+{
+    words::unsigned_word(b, at) <= most
+}
+
+// Whether x is 0, where it is of row 0.
+fn zero_first(x: i32, i: usize) -> bool
+    ensures { λ r. ⌜ r ≡ zeroFirst x i ⌝ }
 {
     if 0 < i {
         return true;
     }
-    word_in(b, at, 0, 0)
+    rules::in_range(0, x, 0)
 }
 
 // The number of the fault of a zone row.
@@ -34,44 +41,34 @@ pub fn zone_row(b: &[u8], i: usize) -> u32
     if !word_in(b, 2 * i, 6_000_000, 642_000_000) {
         return 6;
     }
-    if !word_in(b, 2 * i + 1, 0, 100_000_000) {
+    if !size_in(b, 2 * i + 1, 100_000_000) {
         return 6;
     }
     0
 }
 
-// Whether the b after longitude row i's differs from it by at most 1,000.
-fn b_within_bounds(b: &[u8], i: usize) -> bool
-    requires { ⌜ 8 * i + 16 ≤ length (now b) ⌝ }
-    ensures { λ r. ⌜ r ≡ rises (wordAt (now (b .entry)) (2 * i)) (wordAt (now (b .entry)) (2 * i + 2)) (negℤ (pos 1_000)) (pos 1_000) ⌝ }
-{
-    rules::rises(
-        words::word(b, 2 * i),
-        words::word(b, 2 * i + 2),
-        -1_000,
-        1_000,
-    )
-}
-
-// The number of the fault of a longitude row, one of n.
+// The number of the fault of a longitude row, one of n. Its figures are read once each.
 pub fn longitude_row(b: &[u8], n: usize, i: usize) -> u32
     requires { ⌜ (8 * n ≤ length (now b)) × (i < n) ⌝ }
     ensures { λ r. ⌜ r ≡ longitudeFault (now (b .entry)) n i ⌝ }
 {
-    if !word_in(b, 2 * i, -20_000, 20_000) {
+    let x = words::word(b, 2 * i);
+    let c = words::word(b, 2 * i + 1);
+    if !rules::in_range(-20_000, x, 20_000) {
         return 6;
     }
-    if !word_in(b, 2 * i + 1, -2_000, 2_000) {
+    if !rules::in_range(-2_000, c, 2_000) {
         return 6;
     }
-    if !zero_first(b, 2 * i, i) {
+    if !zero_first(x, i) {
         return 6;
     }
-    if !zero_first(b, 2 * i + 1, i) {
+    if !zero_first(c, i) {
         return 6;
     }
     if i + 1 < n {
-        if !b_within_bounds(b, i) {
+        let next = words::word(b, 2 * i + 2);
+        if !rules::rises(x, next, -1_000, 1_000) {
             return 8;
         }
     }
@@ -83,10 +80,10 @@ pub fn northing_row(b: &[u8], i: usize) -> u32
     requires { ⌜ 8 * i + 8 ≤ length (now b) ⌝ }
     ensures { λ r. ⌜ r ≡ northingFault (now (b .entry)) i ⌝ }
 {
-    if !word_in(b, 2 * i, 0, 1_000_000) {
+    if !size_in(b, 2 * i, 1_000_000) {
         return 6;
     }
-    if !word_in(b, 2 * i + 1, 0, 1_000_000) {
+    if !size_in(b, 2 * i + 1, 1_000_000) {
         return 6;
     }
     0
@@ -97,10 +94,11 @@ pub fn easting_row(b: &[u8], i: usize) -> u32
     requires { ⌜ 4 * i + 4 ≤ length (now b) ⌝ }
     ensures { λ r. ⌜ r ≡ eastingFault (now (b .entry)) i ⌝ }
 {
-    if !word_in(b, i, -100, 100) {
+    let d = words::word(b, i);
+    if !rules::in_range(-100, d, 100) {
         return 6;
     }
-    if !zero_first(b, i, i) {
+    if !zero_first(d, i) {
         return 6;
     }
     0

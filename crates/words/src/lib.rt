@@ -60,6 +60,13 @@ fn bits_of(v: i32) -> u32
     }
 }
 
+// v raised by 2³¹, and so never negative.
+pub fn raised(v: i32) -> u64
+    ensures { λ r. ⌜ (lowered r ≡ v) × (r < 4_294_967_296) ⌝ }
+{
+    ((bits_of(v) as u64) + 2_147_483_648) % 4_294_967_296
+}
+
 // v becomes word i; every other byte stays.
 pub fn put_word(s: &mut [u8], i: usize, v: i32)
     requires { ⌜ 4 * i + 4 ≤ length (now s) ⌝ }

@@ -1,64 +1,96 @@
 -- `small_rows::longitude_row` meets its contract. Assumes nothing.
+use mathlib.Core.Path.{_≡_, refl, _∙_}
+use Prim.Native.Nat.{_+_, _*_}
+use denote.Ref.{now}
+use lib.IntN.{pos, negℤ}
+use mir.Syntax.{w32}
+use mir.Val.{toZ, ofZ}
+use Rattle.words.specs.Words.{wordAt}
 use Rattle.words.proofs.Refusals.{stop, go, below, beyond}
-use Rattle.small_rows.specs.SmallRows.{longitudeFault}
+use Rattle.rules.specs.Limits.{inRange, rises}
+use Rattle.small_rows.specs.SmallRows.{zeroFirst, longitudeFault}
 use borrow.Author.Needs.{needs}
 use Rattle.small_rows.proofs.longitude_row.Statement.{statement}
 use Rattle.small_rows.proofs.longitude_row.Tie as tie
 
+-- ---- the figures as they are read
+b-read : (c : tie.After-word) → toZ w32 (ofZ w32 (c .word .result)) ≡ wordAt (now (c .before .before .args .b)) (2 * c .before .before .args .i)
+b-read c = let read : toZ w32 (ofZ w32 (c .word .result)) ≡ c .word .result = search needs in read ∙ c .word .ensures
+
+c-read : (c : tie.After-word2) → toZ w32 (ofZ w32 (c .word2 .result)) ≡ wordAt (now (c .before .before .before .args .b)) (2 * c .before .before .before .args .i + 1)
+c-read c = let read : toZ w32 (ofZ w32 (c .word2 .result)) ≡ c .word2 .result = search needs in read ∙ c .word2 .ensures
+
+next-read : (c : tie.After-word3) → toZ w32 (ofZ w32 (c .word3 .result)) ≡ wordAt (now (c .before .before .before .before .before .before .before .before .before .before .before .before .before .args .b)) (2 * c .before .before .before .before .before .before .before .before .before .before .before .before .before .args .i + 2)
+next-read c = let read : toZ w32 (ofZ w32 (c .word3 .result)) ≡ c .word3 .result = search needs in read ∙ c .word3 .ensures
+
+-- ---- the tests of them
+b-ranged : (c : tie.After-in-range) → c .in-range .result ≡ inRange (negℤ (pos 20_000)) (wordAt (now (c .before .before .before .before .args .b)) (2 * c .before .before .before .before .args .i)) (pos 20_000)
+b-ranged c = c .in-range .ensures ∙ rw (b-read (c .before .before))
+
+c-ranged : (c : tie.After-in-range2) → c .in-range2 .result ≡ inRange (negℤ (pos 2_000)) (wordAt (now (c .before .before .before .before .before .before .args .b)) (2 * c .before .before .before .before .before .before .args .i + 1)) (pos 2_000)
+c-ranged c = c .in-range2 .ensures ∙ rw (c-read (c .before .before .before))
+
+b-first : (c : tie.After-zero-first) → c .zero-first .result ≡ zeroFirst (wordAt (now (c .before .before .before .before .before .before .before .before .args .b)) (2 * c .before .before .before .before .before .before .before .before .args .i)) (c .before .before .before .before .before .before .before .before .args .i)
+b-first c = c .zero-first .ensures ∙ rw (b-read (c .before .before .before .before .before .before))
+
+c-first : (c : tie.After-zero-first2) → c .zero-first2 .result ≡ zeroFirst (wordAt (now (c .before .before .before .before .before .before .before .before .before .before .args .b)) (2 * c .before .before .before .before .before .before .before .before .before .before .args .i + 1)) (c .before .before .before .before .before .before .before .before .before .before .args .i)
+c-first c = c .zero-first2 .ensures ∙ rw (c-read (c .before .before .before .before .before .before .before))
+
+b-next : (c : tie.After-rises) → c .rises .result ≡ rises (wordAt (now (c .before .before .before .before .before .before .before .before .before .before .before .before .before .before .args .b)) (2 * c .before .before .before .before .before .before .before .before .before .before .before .before .before .before .args .i)) (wordAt (now (c .before .before .before .before .before .before .before .before .before .before .before .before .before .before .args .b)) (2 * c .before .before .before .before .before .before .before .before .before .before .before .before .before .before .args .i + 2)) (negℤ (pos 1_000)) (pos 1_000)
+b-next c = c .rises .ensures ∙ rw (b-read (c .before .before .before .before .before .before .before .before .before .before .before .before), next-read (c .before))
+
+-- ---- the ladder
 returns : tie.Need-returns
 unfolding longitudeFault
-returns c = search stop depth 20
+returns c = stop _ _ _ _ (b-ranged (c .before)) (c .if1 .taken)
 
 returns-2 : tie.Need-returns-2
 unfolding longitudeFault
-returns-2 c = search (stop, go) depth 20
+returns-2 c = go _ _ _ _ _ (b-ranged (c .before .before .before)) (c .before .before .if1 .left) (stop _ _ _ _ (c-ranged (c .before)) (c .if2 .taken))
 
 returns-3 : tie.Need-returns-3
 unfolding longitudeFault
-returns-3 c = search (stop, go) depth 20
+returns-3 c = go _ _ _ _ _ (b-ranged (c .before .before .before .before .before)) (c .before .before .before .before .if1 .left) (go _ _ _ _ _ (c-ranged (c .before .before .before)) (c .before .before .if2 .left) (stop _ _ _ _ (b-first (c .before)) (c .if3 .taken)))
 
 returns-4 : tie.Need-returns-4
 unfolding longitudeFault
-returns-4 c = search (stop, go) depth 20
+returns-4 c = go _ _ _ _ _ (b-ranged (c .before .before .before .before .before .before .before)) (c .before .before .before .before .before .before .if1 .left) (go _ _ _ _ _ (c-ranged (c .before .before .before .before .before)) (c .before .before .before .before .if2 .left) (go _ _ _ _ _ (b-first (c .before .before .before)) (c .before .before .if3 .left) (stop _ _ _ _ (c-first (c .before)) (c .if4 .taken))))
 
 returns-5 : tie.Need-returns-5
 unfolding longitudeFault
-returns-5 c = search (stop, go, below) depth 20
+returns-5 c = go _ _ _ _ _ (b-ranged (c .before .before .before .before .before .before .before .before .before .before .before)) (c .before .before .before .before .before .before .before .before .before .before .if1 .left) (go _ _ _ _ _ (c-ranged (c .before .before .before .before .before .before .before .before .before)) (c .before .before .before .before .before .before .before .before .if2 .left) (go _ _ _ _ _ (b-first (c .before .before .before .before .before .before .before)) (c .before .before .before .before .before .before .if3 .left) (go _ _ _ _ _ (c-first (c .before .before .before .before .before)) (c .before .before .before .before .if4 .left) (below _ _ _ _ _ (c .before .before .before .if5 .taken) (stop _ _ _ _ (b-next (c .before)) (c .if6 .taken))))))
 
 returns-6 : tie.Need-returns-6
 unfolding longitudeFault
-returns-6 c = search (go, below) depth 20
+returns-6 c = go _ _ _ _ _ (b-ranged (c .before .before .before .before .before .before .before .before .before .before .before)) (c .before .before .before .before .before .before .before .before .before .before .if1 .left) (go _ _ _ _ _ (c-ranged (c .before .before .before .before .before .before .before .before .before)) (c .before .before .before .before .before .before .before .before .if2 .left) (go _ _ _ _ _ (b-first (c .before .before .before .before .before .before .before)) (c .before .before .before .before .before .before .if3 .left) (go _ _ _ _ _ (c-first (c .before .before .before .before .before)) (c .before .before .before .before .if4 .left) (below _ _ _ _ _ (c .before .before .before .if5 .taken) (go _ _ _ _ _ (b-next (c .before)) (c .if6 .left) refl)))))
 
 returns-7 : tie.Need-returns-7
 unfolding longitudeFault
-returns-7 c = search (go, beyond) depth 20
+returns-7 c = go _ _ _ _ _ (b-ranged (c .before .before .before .before .before .before .before .before)) (c .before .before .before .before .before .before .before .if1 .left) (go _ _ _ _ _ (c-ranged (c .before .before .before .before .before .before)) (c .before .before .before .before .before .if2 .left) (go _ _ _ _ _ (b-first (c .before .before .before .before)) (c .before .before .before .if3 .left) (go _ _ _ _ _ (c-first (c .before .before)) (c .before .if4 .left) (beyond _ _ _ _ _ (c .if5 .left) refl))))
 
-mul-word-in : tie.Need-mul-word-in
-mul-word-in c = search needs
+mul-word : tie.Need-mul-word
+mul-word c = search needs
 
-word-in-requires : tie.Need-word-in-requires
-word-in-requires c κs = search needs
+word-requires : tie.Need-word-requires
+word-requires c κs = search needs
 
-mul-word-in-2 : tie.Need-mul-word-in-2
-mul-word-in-2 c = search needs
+mul-word-2 : tie.Need-mul-word-2
+mul-word-2 c = search needs
 
-add-word-in : tie.Need-add-word-in
-add-word-in c = search needs
+add-word : tie.Need-add-word
+add-word c = search needs
 
-word-in-requires-2 : tie.Need-word-in-requires-2
-word-in-requires-2 c κs = search needs
+word-requires-2 : tie.Need-word-requires-2
+word-requires-2 c κs = search needs
 
-mul-zero-first : tie.Need-mul-zero-first
-mul-zero-first c = search needs
+in-range-requires : tie.Need-in-range-requires
+in-range-requires c κs = search needs
+
+in-range-requires-2 : tie.Need-in-range-requires-2
+in-range-requires-2 c κs = search needs
 
 zero-first-requires : tie.Need-zero-first-requires
 zero-first-requires c κs = search needs
-
-mul-zero-first-2 : tie.Need-mul-zero-first-2
-mul-zero-first-2 c = search needs
-
-add-zero-first : tie.Need-add-zero-first
-add-zero-first c = search needs
 
 zero-first-requires-2 : tie.Need-zero-first-requires-2
 zero-first-requires-2 c κs = search needs
@@ -66,29 +98,40 @@ zero-first-requires-2 c κs = search needs
 add-if5 : tie.Need-add-if5
 add-if5 c = search needs
 
-b-within-bounds-requires : tie.Need-b-within-bounds-requires
-b-within-bounds-requires c κs = search needs
+mul-word-3 : tie.Need-mul-word-3
+mul-word-3 c = search needs
+
+add-word-2 : tie.Need-add-word-2
+add-word-2 c = search needs
+
+word-requires-3 : tie.Need-word-requires-3
+word-requires-3 c κs = search needs
+
+rises-requires : tie.Need-rises-requires
+rises-requires c κs = search needs
 
 pub longitude-row-spec : {M : Type 1} → statement M
 longitude-row-spec =
     tie.close
     (tie.spec
-    mul-word-in
-    word-in-requires
+    mul-word
+    word-requires
+    mul-word-2
+    add-word
+    word-requires-2
+    in-range-requires
     returns
-    mul-word-in-2
-    add-word-in
-    word-in-requires-2
+    in-range-requires-2
     returns-2
-    mul-zero-first
     zero-first-requires
     returns-3
-    mul-zero-first-2
-    add-zero-first
     zero-first-requires-2
     returns-4
     add-if5
-    b-within-bounds-requires
+    mul-word-3
+    add-word-2
+    word-requires-3
+    rises-requires
     returns-5
     returns-6
     returns-7)

@@ -1,4 +1,6 @@
 -- `small_rows::zero_first` meets its contract. Assumes nothing.
+use mathlib.Core.Path.{_∙_}
+use mir.Facts.{toZ-ofZ}
 use Rattle.words.proofs.Refusals.{below, beyond}
 use Rattle.small_rows.specs.SmallRows.{zeroFirst}
 use borrow.Author.Needs.{needs}
@@ -11,10 +13,10 @@ returns c = search below
 
 returns-2 : tie.Need-returns-2
 unfolding zeroFirst
-returns-2 c = search beyond
+returns-2 c = beyond _ _ _ _ _ (c .before .if1 .left) (c .in-range .ensures ∙ rw (toZ-ofZ (c .before .before .fits .x)))
 
-word-in-requires : tie.Need-word-in-requires
-word-in-requires c κs = search needs
+in-range-requires : tie.Need-in-range-requires
+in-range-requires c κs = search needs
 
 pub zero-first-spec : {M : Type 1} → statement M
-zero-first-spec = tie.close (tie.spec returns word-in-requires returns-2)
+zero-first-spec = tie.close (tie.spec returns in-range-requires returns-2)
