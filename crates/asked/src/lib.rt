@@ -18,7 +18,7 @@ pub const INVERSE: u8 = 80; // P
 pub const SCALE: u8 = 83; // S
 
 // Whether a byte is a form's letter.
-fn is_form(b: u8) -> bool
+pub fn is_form(b: u8) -> bool
     ensures { λ r. ⌜ r ≡ isForm b ⌝ }
 {
     (b == FORWARD) | (b == INVERSE) | (b == SCALE)

@@ -2,7 +2,7 @@
 use Prim.Native.Nat.{ℕ, _+_}
 use mathlib.Core.List.{List, [], _∷_, _++_}
 use lib.Dec.{leb}
-use lib.IntN.{ℤ}
+use lib.IntN.{ℤ, pos}
 use lib.ListN.{length}
 use lib.Seq.{sets}
 use Rattle.words.specs.Ladder.{need, whereIs}
@@ -13,6 +13,7 @@ use Rattle.convert.specs.Conversions.{geographicToPlane, planeToGeographic, con
 use Rattle.decimal.specs.Writing.{sizeText, numberText}
 use Rattle.asked.specs.declared.Line.{Line}
 use Rattle.asked.specs.Asked.{lineOf}
+use Rattle.lines.specs.declared.Values.{Values}
 use Rattle.lines.specs.declared.Written.{Written}
 
 -- ---- what is printed
@@ -32,25 +33,38 @@ unknownLine = ended (sizeText 18) 10
 unfoldable pub verdictLine : ℕ → ℕ → ℕ → List ℕ
 verdictLine number kind row = ended (sizeText number) 32 ++ (ended (sizeText kind) 32 ++ ended (sizeText row) 10)
 
-abbrev pub planeLine : Plane → List ℕ
-planeLine r = answerLine (r .number) (r .x) (r .y)
+-- ---- what a line is answered
+abbrev pub values : ℕ → ℤ → ℤ → Values
+values number first second = record { number = number; first = first; second = second }
 
-abbrev pub geographicLine : Geographic → List ℕ
-geographicLine r = answerLine (r .number) (r .latitude) (r .longitude)
+-- 18: "a program line of no known form".
+abbrev pub noValues : Values
+noValues = values 18 (pos 0) (pos 0)
 
-abbrev pub gridLine : Grid → List ℕ
-gridLine r = answerLine (r .number) (r .convergence) (r .scale)
+abbrev pub planeValues : Plane → Values
+planeValues r = values (r .number) (r .x) (r .y)
 
--- "then one line per line": G is geographic to plane, P plane to geographic, S convergence and scale.
-unfoldable pub answerTo : List ℕ → Line → List ℕ
-answerTo s l =
-    whereIs (l .form) 71 (planeLine (geographicToPlane s (l .first) (l .second)))
-    (whereIs (l .form) 80 (geographicLine (planeToGeographic s (l .first) (l .second)))
-    (whereIs (l .form) 83 (gridLine (convergenceAndScale s (l .first) (l .second)))
-    unknownLine))
+abbrev pub geographicValues : Geographic → Values
+geographicValues r = values (r .number) (r .latitude) (r .longitude)
 
+abbrev pub gridValues : Grid → Values
+gridValues r = values (r .number) (r .convergence) (r .scale)
+
+-- G is geographic to plane, P plane to geographic, S convergence and scale.
+unfoldable pub valuesOf : List ℕ → Line → Values
+valuesOf s l =
+    whereIs (l .form) 71 (planeValues (geographicToPlane s (l .first) (l .second)))
+    (whereIs (l .form) 80 (geographicValues (planeToGeographic s (l .first) (l .second)))
+    (whereIs (l .form) 83 (gridValues (convergenceAndScale s (l .first) (l .second)))
+    noValues))
+
+-- 18 stands alone; any other number has its two values after it.
+unfoldable pub textOf : Values → List ℕ
+textOf v = whereIs (v .number) 18 unknownLine (answerLine (v .number) (v .first) (v .second))
+
+-- "then one line per line".
 unfoldable pub answerText : List ℕ → List ℕ → List ℕ
-answerText s line = answerTo s (lineOf line)
+answerText s line = textOf (valuesOf s (lineOf line))
 
 -- ---- the line written to lent memory
 -- Room for any line: three numbers of at most 21 bytes, with a byte after each.

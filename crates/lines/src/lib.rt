@@ -2,15 +2,24 @@
 use asked::BLANK;
 use asked::FORWARD;
 use asked::INVERSE;
+use asked::Line;
 use asked::SCALE;
 use entries::Places;
 ghost use mathlib.Core.Path.{_≡_};
 ghost use Prim.Native.Nat.{_+_, _≤_, _<_};
+ghost use lib.IntN.{pos};
 ghost use lib.ListN.{length};
 ghost use Rattle.entries.specs.Entries.{placesOf};
 ghost use Rattle.bodies.specs.Check.{checkOf};
 ghost use Rattle.decimal.specs.Writing.{sizeText, numberText, Wrote};
-ghost use Rattle.lines.specs.Lines.{ended, answerLine, verdictLine, unknownLine, answerText, lineRoom, writtenOf, afterLine};
+ghost use Rattle.lines.specs.Lines.{ended, answerLine, verdictLine, unknownLine, values, valuesOf, textOf, answerText, lineRoom, writtenOf, afterLine};
+
+// What a line is answered: a number and two values, zeros where the number refuses.
+pub struct Values {
+    pub number: u32,
+    pub first: i32,
+    pub second: i32,
+}
 
 // What was written: 0 and how many bytes, or 17 and 0.
 pub struct Written {
@@ -20,8 +29,22 @@ pub struct Written {
 
 const LINE_FEED: u8 = 10;
 
+// The number of a line of no known form.
+const UNKNOWN: u32 = 18;
+
 // Room for any line that is written: three numbers of at most 21 bytes, with a byte after each.
 pub const LINE_ROOM: usize = 66;
+
+// A number that refuses, with zeros.
+fn refusal(number: u32) -> Values
+    ensures { λ r. ⌜ r ≡ values number (pos 0) (pos 0) ⌝ }
+{
+    Values {
+        number,
+        first: 0,
+        second: 0,
+    }
+}
 
 // ---- what is printed
 
@@ -71,26 +94,74 @@ pub fn put_unknown(out: &mut [u8], at: usize) -> usize
     put_size_and(out, at, 18, LINE_FEED)
 }
 
+// What a line is answered, from `at` on; the place after it.
+fn put_values(out: &mut [u8], at: usize, v: Values) -> usize
+    requires { ⌜ at + lineRoom ≤ length (now out) ⌝ }
+    ensures { λ r. ⌜ (r ≤ at + lineRoom) × Wrote (now (out .entry)) (now (out .exit)) at r (textOf v) ⌝ }
+{
+    let number = v.number;
+    if number == UNKNOWN {
+        return put_unknown(out, at);
+    }
+    put_answer(out, at, number, v.first, v.second)
+}
+
+// ---- what a line is answered
+
+// What the line is answered on a sheet known to pass, with its places.
+pub fn values_of(s: &[u8], p: Places, l: Line) -> Values
+    requires { ⌜ (checkOf (now s) .number ≡ 0) × (p ≡ placesOf (now s)) ⌝ }
+    ensures { λ r. ⌜ r ≡ valuesOf (now (s .entry)) l ⌝ }
+{
+    let form = l.form;
+    if form == FORWARD {
+        let r = forward::forward(s, p, l.first, l.second);
+        return Values {
+            number: r.number,
+            first: r.x,
+            second: r.y,
+        };
+    }
+    if form == INVERSE {
+        let r = inverse::inverse(s, p, l.first, l.second);
+        return Values {
+            number: r.number,
+            first: r.latitude,
+            second: r.longitude,
+        };
+    }
+    if form == SCALE {
+        let r = grid::convergence(s, p, l.first, l.second);
+        return Values {
+            number: r.number,
+            first: r.convergence,
+            second: r.scale,
+        };
+    }
+    refusal(UNKNOWN)
+}
+
+// What the line is answered on any sheet, which is checked first where the line is of a known form.
+fn checked_values(sheet: &[u8], l: Line) -> Values
+    ensures { λ r. ⌜ r ≡ valuesOf (now (sheet .entry)) l ⌝ }
+{
+    if !asked::is_form(l.form) {
+        return refusal(UNKNOWN);
+    }
+    let number = bodies::check(sheet).number;
+    if number != 0 {
+        return refusal(number);
+    }
+    values_of(sheet, entries::places_of(sheet), l)
+}
+
 // The line's answer on a sheet known to pass, with its places, from `at` on; the place after it.
 pub fn answer(s: &[u8], p: Places, line: &[u8], out: &mut [u8], at: usize) -> usize
     requires { ⌜ (checkOf (now s) .number ≡ 0) × (p ≡ placesOf (now s)) × (at + lineRoom ≤ length (now out)) ⌝ }
     ensures { λ r. ⌜ (r ≤ at + lineRoom) × Wrote (now (out .entry)) (now (out .exit)) at r (answerText (now (s .entry)) (now (line .entry))) ⌝ }
 {
-    let l = asked::line_of(line);
-    let form = l.form;
-    if form == FORWARD {
-        let r = forward::forward(s, p, l.first, l.second);
-        return put_answer(out, at, r.number, r.x, r.y);
-    }
-    if form == INVERSE {
-        let r = inverse::inverse(s, p, l.first, l.second);
-        return put_answer(out, at, r.number, r.latitude, r.longitude);
-    }
-    if form == SCALE {
-        let r = grid::convergence(s, p, l.first, l.second);
-        return put_answer(out, at, r.number, r.convergence, r.scale);
-    }
-    put_unknown(out, at)
+    let v = values_of(s, p, asked::line_of(line));
+    put_values(out, at, v)
 }
 
 // The line's answer on any sheet, checked first, from the front of `out` on; its length.
@@ -98,21 +169,8 @@ fn checked_answer(sheet: &[u8], line: &[u8], out: &mut [u8]) -> usize
     requires { ⌜ lineRoom ≤ length (now out) ⌝ }
     ensures { λ r. ⌜ Wrote (now (out .entry)) (now (out .exit)) 0 r (answerText (now (sheet .entry)) (now (line .entry))) ⌝ }
 {
-    let l = asked::line_of(line);
-    let form = l.form;
-    if form == FORWARD {
-        let r = convert::geographic_to_plane(sheet, l.first, l.second);
-        return put_answer(out, 0, r.number, r.x, r.y);
-    }
-    if form == INVERSE {
-        let r = convert::plane_to_geographic(sheet, l.first, l.second);
-        return put_answer(out, 0, r.number, r.latitude, r.longitude);
-    }
-    if form == SCALE {
-        let r = convert::convergence_and_scale(sheet, l.first, l.second);
-        return put_answer(out, 0, r.number, r.convergence, r.scale);
-    }
-    put_unknown(out, 0)
+    let v = checked_values(sheet, asked::line_of(line));
+    put_values(out, 0, v)
 }
 
 // The line's answer on any sheet, checked first, from the front of `out` on; 17 where `out` has less room than any line may need.

@@ -1,21 +1,17 @@
--- `lines::answer` meets its contract: each form's conversion, as text. Assumes nothing.
-use denote.Ref.{now}
-use mir.Facts.{toZ-ofZ}
-use mir.Syntax.{w32}
-use Rattle.convert.proofs.Checked.{forward-passes, inverse-passes, grid-passes}
-use Rattle.lines.proofs.Answers.{forward-line, inverse-line, grid-line, unknown-line}
-use borrow.Author.Needs.{needs, sfits-of}
+-- `lines::answer` meets its contract. Assumes nothing.
+use Rattle.lines.proofs.Answers.{text-of}
+use borrow.Author.Needs.{needs}
 use Rattle.lines.proofs.answer.Statement.{statement}
 use Rattle.lines.proofs.answer.Tie as tie
 
 line-of-requires : tie.Need-line-of-requires
 line-of-requires c κs = search needs
 
-forward-requires : tie.Need-forward-requires
-forward-requires c κs = search needs
+values-of-requires : tie.Need-values-of-requires
+values-of-requires c κs = search needs
 
-put-answer-requires : tie.Need-put-answer-requires
-put-answer-requires c κs = search needs
+put-values-requires : tie.Need-put-values-requires
+put-values-requires c κs = search needs
 
 same-length : tie.Need-same-length
 same-length c = search needs
@@ -23,101 +19,11 @@ same-length c = search needs
 returns : tie.Need-returns
 returns c =
     let put = c .before .before in
-    let told = put .before in
-    let call = told .before .before .before in
-    let asked = call .before in
-    let test = asked .before .before in
-    let read = test .before in
-    let start = read .before .before .before .before in
-    let x = toZ-ofZ {w = w32} {z = read .line-of .result .first} (sfits-of (asked .before .struct-told .given .1 .0 .1)) in
-    let y = toZ-ofZ {w = w32} {z = read .line-of .result .second} (sfits-of (asked .struct-told2 .given .1 .1 .0 .1)) in
-    let u = toZ-ofZ {w = w32} {z = call .forward .result .x} (sfits-of (told .before .struct-told3 .given .1 .0 .1)) in
-    let v = toZ-ofZ {w = w32} {z = call .forward .result .y} (sfits-of (told .struct-told4 .given .1 .1 .0 .1)) in
-    let line = forward-line (now (start .args .s)) (now (start .args .line)) _ (read .line-of .ensures) _ _ x y _ (test .if1 .taken) (forward-passes _ _ _ _ (start .pre .0) (call .forward .ensures)) in
-    (put .put-answer .ensures .0, rw line at (rw (u, v) at (put .put-answer .ensures .1)))
-
-inverse-requires : tie.Need-inverse-requires
-inverse-requires c κs = search needs
-
-put-answer-requires-2 : tie.Need-put-answer-requires-2
-put-answer-requires-2 c κs = search needs
-
-same-length-2 : tie.Need-same-length-2
-same-length-2 c = search needs
-
-returns-2 : tie.Need-returns-2
-returns-2 c =
-    let put = c .before .before in
-    let told = put .before in
-    let call = told .before .before .before in
-    let asked = call .before in
-    let test = asked .before .before in
-    let read = test .before .before in
-    let start = read .before .before .before .before in
-    let x = toZ-ofZ {w = w32} {z = read .line-of .result .first} (sfits-of (asked .before .struct-told5 .given .1 .0 .1)) in
-    let y = toZ-ofZ {w = w32} {z = read .line-of .result .second} (sfits-of (asked .struct-told6 .given .1 .1 .0 .1)) in
-    let u = toZ-ofZ {w = w32} {z = call .inverse .result .latitude} (sfits-of (told .before .struct-told7 .given .1 .0 .1)) in
-    let v = toZ-ofZ {w = w32} {z = call .inverse .result .longitude} (sfits-of (told .struct-told8 .given .1 .1 .0 .1)) in
-    let line = inverse-line (now (start .args .s)) (now (start .args .line)) _ (read .line-of .ensures) _ _ x y _ (test .before .if1 .left) (test .if2 .taken) (inverse-passes _ _ _ _ (start .pre .0) (call .inverse .ensures)) in
-    (put .put-answer2 .ensures .0, rw line at (rw (u, v) at (put .put-answer2 .ensures .1)))
-
-convergence-requires : tie.Need-convergence-requires
-convergence-requires c κs = search needs
-
-put-answer-requires-3 : tie.Need-put-answer-requires-3
-put-answer-requires-3 c κs = search needs
-
-same-length-3 : tie.Need-same-length-3
-same-length-3 c = search needs
-
-returns-3 : tie.Need-returns-3
-returns-3 c =
-    let put = c .before .before in
-    let told = put .before in
-    let call = told .before .before .before in
-    let asked = call .before in
-    let test = asked .before .before in
-    let read = test .before .before .before in
-    let start = read .before .before .before .before in
-    let x = toZ-ofZ {w = w32} {z = read .line-of .result .first} (sfits-of (asked .before .struct-told9 .given .1 .0 .1)) in
-    let y = toZ-ofZ {w = w32} {z = read .line-of .result .second} (sfits-of (asked .struct-told10 .given .1 .1 .0 .1)) in
-    let u = toZ-ofZ {w = w32} {z = call .convergence .result .convergence} (sfits-of (told .before .struct-told11 .given .1 .0 .1)) in
-    let v = toZ-ofZ {w = w32} {z = call .convergence .result .scale} (sfits-of (told .struct-told12 .given .1 .1 .0 .1)) in
-    let line = grid-line (now (start .args .s)) (now (start .args .line)) _ (read .line-of .ensures) _ _ x y _ (test .before .before .if1 .left) (test .before .if2 .left) (test .if3 .taken) (grid-passes _ _ _ _ (start .pre .0) (call .convergence .ensures)) in
-    (put .put-answer3 .ensures .0, rw line at (rw (u, v) at (put .put-answer3 .ensures .1)))
-
-put-unknown-requires : tie.Need-put-unknown-requires
-put-unknown-requires c κs = search needs
-
-same-length-4 : tie.Need-same-length-4
-same-length-4 c = search needs
-
-returns-4 : tie.Need-returns-4
-returns-4 c =
-    let put = c .before .before in
-    let test = put .before .before in
-    let read = test .before .before .before in
-    let start = read .before .before .before .before in
-    let line = unknown-line (now (start .args .s)) (now (start .args .line)) _ (read .line-of .ensures) (test .before .before .if1 .left) (test .before .if2 .left) (test .if3 .left) in
-    (put .put-unknown .ensures .0, rw line at (put .put-unknown .ensures .1))
+    let call = put .before .before in
+    let read = call .before in
+    (put .put-values .ensures .0, rw (text-of _ _ _ _ (read .line-of .ensures) (call .values-of .ensures)) at (put .put-values .ensures .1))
 
 pub answer-spec : {M : Type 1} → statement M
 answer-spec =
     tie.close
-    (tie.spec
-    line-of-requires
-    forward-requires
-    put-answer-requires
-    same-length
-    returns
-    inverse-requires
-    put-answer-requires-2
-    same-length-2
-    returns-2
-    convergence-requires
-    put-answer-requires-3
-    same-length-3
-    returns-3
-    put-unknown-requires
-    same-length-4
-    returns-4)
+    (tie.spec line-of-requires values-of-requires put-values-requires same-length returns)
