@@ -3,7 +3,7 @@ use mathlib.Core.Path.{_≡_, refl}
 use mathlib.Core.List.{map}
 use Rattle.figures.specs.Nearest.{withSign, nearestSize, nearest}
 use Rattle.figures.specs.Between.{between}
-use Rattle.figures.specs.Steps.{qOf, sizeOfX, rise, reduction, seconds, approximateL, sizeOfL, perSecond}
+use Rattle.steps.specs.Steps.{qOf, sizeOfX, rise, reduction, seconds, approximateL, sizeOfL, perSecond}
 use Rattle.words.specs.Words.{unsignedAt, signed32, wordAt, bits32}
 use Rattle.words.specs.Ladder.{need, whereBelow, whereIs, orElse}
 use Rattle.words.specs.Faults.{firstFault}
@@ -15,7 +15,7 @@ use Rattle.entries.specs.Entries.{named, dueAt, entryOf}
 use Rattle.contents.specs.Contents.{within, entryFault, sized, contentsOf}
 use Rattle.bodies.specs.Check.{rowFault, bodiesOf, checkOf}
 use Rattle.reading.specs.Tables.{pastRow, valueAt, withinRows}
-use Rattle.reading.specs.Rows.{lastNotAbove}
+use Rattle.row_search.specs.Rows.{lastNotAbove}
 use Rattle.tables.specs.Figures.{centralMeridian, falseEasting, firstLatitude, y0Of, y0At, hAt, vAt, aAt, bAt, cAt, pAt, dAt}
 use Rattle.extent.specs.Extent.{fromFirst, latitudeKnown, lOf, sizeKnown, longitudeKnown, xPrime, eastingKnown, northingKnown, reducedKnown}
 use Rattle.forward.specs.Forward.{xSize, xOf, yOf, planeAt, forwardOf}

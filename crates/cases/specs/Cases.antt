@@ -4,7 +4,7 @@ use Prim.Native.Nat.{ℕ, _-_}
 use lib.IntN.{ℤ, pos, negℤ, _-ℤ_}
 use Rattle.figures.specs.Nearest.{withSign, nearest}
 use Rattle.figures.specs.Between.{between}
-use Rattle.figures.specs.Steps.{qOf, sizeOfX, rise, reduction, seconds, perSecond}
+use Rattle.steps.specs.Steps.{qOf, sizeOfX, rise, reduction, seconds, perSecond}
 use Rattle.rows.specs.Rows.{latitudeFault}
 use Rattle.forward.specs.declared.Plane.{Plane}
 use Rattle.inverse.specs.declared.Geographic.{Geographic}

@@ -12,7 +12,7 @@ use lib.ListN.{length}
 use mir.Syntax.{w32}
 use mir.Val.{SFits}
 use Rattle.figures.proofs.Holds.{fits}
-use Rattle.figures.proofs.StepBounds.{per-second-most}
+use Rattle.steps.proofs.StepBounds.{per-second-most}
 use Rattle.words.specs.Words.{wordAt, putWord}
 use Rattle.words.proofs.Writing.{wordAt-put, wordAt-put-other, length-putWord}
 use Rattle.rules.specs.declared.Figures.{Figures}

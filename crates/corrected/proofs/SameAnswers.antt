@@ -10,7 +10,7 @@ use lib.Dec.{lit<}
 use lib.IntN.{ℤ, pos, natAbs, _-ℤ_, +ℤ-invr}
 use lib.Signed.{leZ}
 use Rattle.figures.specs.Nearest.{nearestSize}
-use Rattle.figures.specs.Steps.{seconds}
+use Rattle.steps.specs.Steps.{seconds}
 use Rattle.figures.proofs.Order.{leZ-equal}
 use Rattle.figures.proofs.Rounding.{nearestSize-most}
 use Rattle.words.specs.Ladder.{need, whereBelow}
@@ -18,8 +18,8 @@ use Rattle.words.proofs.Refusals.{where-below, where-beyond}
 use Rattle.entries.specs.Layout.{latitude, stepOf}
 use Rattle.entries.specs.Entries.{rowsOf}
 use Rattle.bodies.specs.Check.{checkOf}
-use Rattle.reading.specs.Rows.{Rising}
-use Rattle.reading.proofs.Rising.{rises-rising}
+use Rattle.row_search.specs.Rows.{Rising}
+use Rattle.row_search.proofs.Rising.{rises-rising}
 use Rattle.tables.specs.Figures.{y0Of}
 use Rattle.tables.proofs.Ranges.{y0-rises}
 use Rattle.extent.specs.Extent.{fromFirst, latitudeKnown, lOf, longitudeKnown, xPrime, eastingKnown, northingKnown, reducedKnown}

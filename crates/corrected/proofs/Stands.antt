@@ -9,9 +9,9 @@ use native.Mathlib.Omega.{arith}
 use lib.IntN.{ℤ}
 use lib.Signed.{leZ, ltZ}
 use Rattle.figures.proofs.Order.{leZ-refl, leZ-trans, ltZ-leZ, leZ-ltZ, ltZ-le, not-above-of, not-both}
-use Rattle.reading.specs.Rows.{lastNotAbove, Rising}
-use Rattle.reading.proofs.Local.{same-row}
-use Rattle.reading.proofs.LastRow.{last-below, last-not-above, later-above}
+use Rattle.row_search.specs.Rows.{lastNotAbove, Rising}
+use Rattle.row_search.proofs.SameRow.{same-row}
+use Rattle.row_search.proofs.LastRow.{last-below, last-not-above, later-above}
 
 -- a later row is not below
 later : (f : ℕ → ℤ) (n : ℕ) → Rising f n → (i d : ℕ) → i + d < n → leZ (f i) (f (i + d)) ≡ true

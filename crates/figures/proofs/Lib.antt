@@ -8,5 +8,3 @@ pub mod Bits
 pub mod Rounding
 pub mod Interval
 pub mod Raised
-pub mod Splitting
-pub mod StepBounds

@@ -1,6 +1,4 @@
--- The definitions that the contracts of `figures` cite: rounding, reading between rows, and the Survey's printed steps.
+-- The definitions that the contracts of `figures` cite: rounding and reading between rows, and the ranges of what is rounded.
 pub mod Nearest
 pub mod Between
 pub mod Ranges
-pub mod Steps
-pub mod Wide

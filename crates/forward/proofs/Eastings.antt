@@ -9,9 +9,9 @@ use lib.IntN.{ℤ, pos, natAbs, _+ℤ_, _*ℤ_}
 use lib.Signed.{nonNeg}
 use Rattle.figures.specs.Nearest.{withSign}
 use Rattle.figures.specs.Ranges.{mostH, mostV, mostA, mostS}
-use Rattle.figures.specs.Steps.{qOf, sizeOfX, rise}
+use Rattle.steps.specs.Steps.{qOf, sizeOfX, rise}
 use Rattle.figures.proofs.Sizes.{Size, size-from, sum-nonNeg, size-product, size-withSign, sum-most, product-most}
-use Rattle.figures.proofs.StepBounds.{q-most, x-size-most, rise-most}
+use Rattle.steps.proofs.StepBounds.{q-most, x-size-most, rise-most}
 use Rattle.entries.specs.Layout.{latitude, longitude, stepOf}
 use Rattle.entries.specs.Entries.{rowsOf}
 use Rattle.bodies.specs.Check.{checkOf}

@@ -3,7 +3,7 @@ use mathlib.Core.List.{List}
 use Prim.Native.Nat.{ℕ}
 use lib.IntN.{ℤ, pos, natAbs, _+ℤ_}
 use Rattle.figures.specs.Nearest.{withSign}
-use Rattle.figures.specs.Steps.{qOf, sizeOfX, rise}
+use Rattle.steps.specs.Steps.{qOf, sizeOfX, rise}
 use Rattle.words.specs.Ladder.{need}
 use Rattle.tables.specs.Figures.{falseEasting, y0At, hAt, vAt, aAt, bAt, cAt}
 use Rattle.extent.specs.Extent.{fromFirst, latitudeKnown, lOf, longitudeKnown}

@@ -25,7 +25,7 @@ fn x_size(s: &[u8], p: Places, t: u64, size: u64, b: i64) -> i64
 {
     let h = tables::h_at(s, p, t);
     let a = tables::a_at(s, p, t);
-    figures::size_of_x(h, size, a, b) as i64
+    steps::size_of_x(h, size, a, b) as i64
 }
 
 // x, in 0.01 ft, with b read at the size of L.
@@ -42,10 +42,10 @@ fn y_of(s: &[u8], p: Places, t: u64, size: u64, c: i64) -> i32
     requires { ⌜ (checkOf (now s) .number ≡ 0) × (p ≡ placesOf (now s)) × (t ≤ (rowsOf (now s) latitude - 1) * stepOf latitude) × (size ≤ (rowsOf (now s) longitude - 1) * stepOf longitude) × (c ≡ cAt (now s) size) ⌝ }
     ensures { λ r. ⌜ r ≡ yOf (now (s .entry)) t size ⌝ }
 {
-    let q = figures::q_of(size);
+    let q = steps::q_of(size);
     let v = tables::v_at(s, p, t);
     let y0 = tables::y0_at(s, p, t);
-    (y0 + figures::rise(v, q, c)) as i32
+    (y0 + steps::rise(v, q, c)) as i32
 }
 
 // The point on the plane, of a latitude and a longitude within the tables. What is read at the size of L comes first: it is ready when H and a are.

@@ -6,8 +6,8 @@ use Prim.Native.Nat.{ℕ, _≤_}
 use native.Mathlib.Nat.{le-trans}
 use lib.Dec.{lit≤}
 use lib.IntN.{ℤ, natAbs}
-use Rattle.figures.specs.Steps.{convergence}
-use Rattle.figures.proofs.StepBounds.{convergence-most}
+use Rattle.steps.specs.Steps.{convergence}
+use Rattle.steps.proofs.StepBounds.{convergence-most}
 use Rattle.bodies.specs.Check.{checkOf}
 use Rattle.tables.specs.Figures.{mAt, kAt}
 use Rattle.tables.proofs.Ranges.{m-between}

@@ -2,7 +2,7 @@
 use mathlib.Core.List.{List}
 use Prim.Native.Nat.{ℕ}
 use lib.IntN.{ℤ, pos, natAbs}
-use Rattle.figures.specs.Steps.{convergence}
+use Rattle.steps.specs.Steps.{convergence}
 use Rattle.words.specs.Ladder.{need}
 use Rattle.tables.specs.Figures.{mAt, kAt}
 use Rattle.extent.specs.Extent.{xPrime, scaleKnown, northingKnown}

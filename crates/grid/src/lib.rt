@@ -23,7 +23,7 @@ fn grid_at(s: &[u8], p: Places, xp: i64, y: i32) -> Grid
     let k = tables::k_at(s, p, figures::size(xp));
     Grid {
         number: 0,
-        convergence: figures::convergence(m, xp) as i32,
+        convergence: steps::convergence(m, xp) as i32,
         scale: k as i32,
     }
 }

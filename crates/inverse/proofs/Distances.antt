@@ -13,7 +13,7 @@ use lib.Signed.{leZ, ltZ, nonNeg}
 use mir.Syntax.{w64}
 use mir.Val.{Fits}
 use Rattle.figures.specs.Ranges.{mostGap}
-use Rattle.figures.specs.Steps.{seconds}
+use Rattle.steps.specs.Steps.{seconds}
 use Rattle.figures.proofs.Sizes.{Size, pos-minus, subℕ-le}
 use Rattle.figures.proofs.Rounding.{nearestSize-most}
 use Rattle.words.specs.Ladder.{whereBelow}
@@ -21,7 +21,7 @@ use Rattle.words.proofs.Refusals.{where-below, where-beyond}
 use Rattle.entries.specs.Layout.{latitude, stepOf}
 use Rattle.entries.specs.Entries.{rowsOf}
 use Rattle.bodies.specs.Check.{checkOf}
-use Rattle.reading.proofs.LastRow.{last-below, last-not-above, later-above}
+use Rattle.row_search.proofs.LastRow.{last-below, last-not-above, later-above}
 use Rattle.tables.specs.Figures.{y0Of}
 use Rattle.tables.proofs.Ranges.{latitude-some, y0-size}
 use Rattle.extent.specs.Extent.{reducedKnown}

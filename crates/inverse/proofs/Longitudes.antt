@@ -9,10 +9,10 @@ use lib.Dec.{T, lit≤}
 use lib.IntN.{ℤ, pos, negℤ, natAbs, _+ℤ_, _-ℤ_, _*ℤ_}
 use lib.Signed.{nonNeg}
 use Rattle.figures.specs.Ranges.{mostA, mostX}
-use Rattle.figures.specs.Steps.{approximateL, sizeOfL, reduction}
+use Rattle.steps.specs.Steps.{approximateL, sizeOfL, reduction}
 use Rattle.figures.proofs.Sizes.{Size, size-from, sum-nonNeg, size-minus, size-product, product-most}
 use Rattle.figures.proofs.Rounding.{IsNearest, is-nearest}
-use Rattle.figures.proofs.StepBounds.{reduction-most, approximate-most, l-size-most}
+use Rattle.steps.proofs.StepBounds.{reduction-most, approximate-most, l-size-most}
 use Rattle.entries.specs.Layout.{latitude, northing, easting, stepOf}
 use Rattle.entries.specs.Entries.{rowsOf}
 use Rattle.bodies.specs.Check.{checkOf}

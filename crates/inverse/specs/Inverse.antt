@@ -3,11 +3,11 @@ use mathlib.Core.List.{List}
 use Prim.Native.Nat.{ℕ, _+_, _*_}
 use lib.IntN.{ℤ, pos, natAbs, _+ℤ_, _-ℤ_}
 use Rattle.figures.specs.Nearest.{withSign}
-use Rattle.figures.specs.Steps.{reduction, seconds, approximateL, sizeOfL}
+use Rattle.steps.specs.Steps.{reduction, seconds, approximateL, sizeOfL}
 use Rattle.words.specs.Ladder.{need, whereBelow}
 use Rattle.entries.specs.Layout.{latitude, stepOf}
 use Rattle.entries.specs.Entries.{rowsOf}
-use Rattle.reading.specs.Rows.{lastNotAbove}
+use Rattle.row_search.specs.Rows.{lastNotAbove}
 use Rattle.tables.specs.Figures.{centralMeridian, firstLatitude, y0Of, hAt, aAt, bAt, pAt, dAt}
 use Rattle.extent.specs.Extent.{sizeKnown, xPrime, eastingKnown, northingKnown, reducedKnown}
 use Rattle.inverse.specs.declared.Geographic.{Geographic}

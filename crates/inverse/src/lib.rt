@@ -27,7 +27,7 @@ pub fn reduced_northing(s: &[u8], p: Places, x: u64, y: i32) -> i64
     let north = y as i64;
     let big_p = tables::p_at(s, p, north as u64);
     let d = tables::d_at(s, p, x);
-    north - figures::reduction(big_p, x, d)
+    north - steps::reduction(big_p, x, d)
 }
 
 // How far high stands above low, both northings in 0.01 ft.
@@ -46,7 +46,7 @@ fn seconds_past(s: &[u8], p: Places, reduced: i64, row: usize) -> u64
     if row + 1 < p.latitude.rows {
         let y0 = tables::y0_of(s, p, row);
         let next = tables::y0_of(s, p, row + 1);
-        figures::seconds(
+        steps::seconds(
             entries::step_of(entries::LATITUDE),
             above(y0, reduced),
             above(y0, next),
@@ -70,7 +70,7 @@ fn approximate_of(s: &[u8], p: Places, x: u64, t: u64) -> u64
     requires { ⌜ (checkOf (now s) .number ≡ 0) × (p ≡ placesOf (now s)) × (x ≤ (rowsOf (now s) easting - 1) * stepOf easting) × (t ≤ (rowsOf (now s) latitude - 1) * stepOf latitude) ⌝ }
     ensures { λ r. ⌜ (r ≡ approximateOf (now (s .entry)) x t) × (r ≤ 30_000_000) ⌝ }
 {
-    figures::approximate_l(x, tables::h_at(s, p, t)) * 1_000
+    steps::approximate_l(x, tables::h_at(s, p, t)) * 1_000
 }
 
 // The size of L there, in 0.001″.
@@ -81,7 +81,7 @@ fn size_of(s: &[u8], p: Places, x: u64, t: u64, approximate: u64) -> i64
     let h = tables::h_at(s, p, t);
     let a = tables::a_at(s, p, t);
     let b = tables::b_at(s, p, approximate);
-    figures::size_of_l(x, a, b, h) as i64
+    steps::size_of_l(x, a, b, h) as i64
 }
 
 // The point on the earth, of x′, the latitude's distance t from row 0 and the size of L, which is within its table.

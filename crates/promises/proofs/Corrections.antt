@@ -25,7 +25,7 @@ use Rattle.rows.specs.Rows.{figuresAt}
 use Rattle.bodies.specs.Check.{checkOf}
 use Rattle.tables.specs.Figures.{y0Of}
 use Rattle.tables.proofs.Parts.{contents-none}
-use Rattle.reading.specs.Rows.{RisesBy}
+use Rattle.row_search.specs.Rows.{RisesBy}
 use Rattle.tables.proofs.Ranges.{latitude-some, y0-rises}
 use Rattle.extent.specs.Extent.{latitudeKnown, longitudeKnown, xPrime, eastingKnown, northingKnown, reducedKnown}
 use Rattle.forward.specs.Forward.{forwardOf}

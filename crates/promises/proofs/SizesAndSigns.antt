@@ -9,7 +9,7 @@ use lib.Dec.{T}
 use lib.IntN.{ℤ, pos, negsuc, negℤ, natAbs, _+ℤ_, _-ℤ_, _*ℤ_, negℤ-negℤ}
 use lib.Signed.{nonNeg}
 use Rattle.figures.specs.Nearest.{withSign, nearest}
-use Rattle.figures.specs.Steps.{sizeOfX, sizeOfL}
+use Rattle.steps.specs.Steps.{sizeOfX, sizeOfL}
 use Rattle.figures.proofs.Sizes.{Size, pos-minus, subℕ-le}
 use Rattle.bodies.specs.Check.{checkOf}
 use Rattle.tables.specs.Figures.{centralMeridian, hAt, aAt, bAt}

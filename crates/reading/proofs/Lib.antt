@@ -1,6 +1,4 @@
--- Laws of reading tables: rising columns, the row of a reduced northing, what a reading needs and what it depends on. Other crates cite them.
-pub mod LastRow
-pub mod Rising
+-- Laws of reading tables: what a reading needs and what it depends on. Other crates cite them.
 pub mod Within
 pub mod Pairs
 pub mod Unsigned

@@ -1,15 +1,12 @@
--- A value depends on its row and, past it, on the next, so that a change of row j moves no value at or below row j − 1 and none at or above row j + 1;
--- and the row of a number depends on which rows are not above it. Assumes nothing.
-use mathlib.Core.Path.{_≡_, refl, sym, ap, _∙_}
+-- A value depends on its row and, past it, on the next, so that a change of row j moves no value at or below row j − 1 and none at or above row j + 1. Assumes nothing.
+use mathlib.Core.Path.{_≡_, sym, ap, _∙_}
 use Prim.Native.Nat.{ℕ, zero, suc, _+_, _*_, _-_, _/_, _%_, _<_, _≤_}
 use native.Mathlib.Nat.{suc-mul, div-add-mod', le-div-iff-mul-le}
 use native.Mathlib.Omega.{arith}
 use lib.IntN.{ℤ, pos, _-ℤ_, _+ℤ_, _*ℤ_, *ℤ-zero}
-use lib.Signed.{leZ}
 use Rattle.figures.specs.Nearest.{nearest}
 use Rattle.figures.specs.Between.{between}
 use Rattle.reading.specs.Tables.{pastRow, valueAt}
-use Rattle.reading.specs.Rows.{lastNotAbove}
 
 -- at a row itself the next row does not count
 at-row : (u w w′ : ℤ) (step : ℕ) → between u w 0 step ≡ between u w′ 0 step
@@ -44,9 +41,3 @@ module _ (f f′ : ℕ → ℤ) (step j : ℕ) (positive : 0 < step) (same : (i 
   value-above offset h =
       let row : j + 1 ≤ offset / step = le-div-iff-mul-le {k = step} {x = j + 1} {y = offset} positive .1 h in
       same-value f′ f step offset (same (offset / step) (λ q. omega arith)) (λ r. same (offset / step + 1) (λ q. omega arith))
-
--- two columns whose rows stand alike to z have one row of z
-pub same-row : (f g : ℕ → ℤ) (n : ℕ) (z : ℤ) → ((i : ℕ) → i < n → leZ (f i) z ≡ leZ (g i) z) → lastNotAbove f n z ≡ lastNotAbove g n z
-unfolding lastNotAbove
-same-row f g zero z same = refl
-same-row f g (suc n) z same = rw (same n (omega arith), same-row f g n z (λ i l. same i (omega arith)))

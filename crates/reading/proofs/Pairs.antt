@@ -14,7 +14,7 @@ use Rattle.figures.specs.Between.{between}
 use Rattle.figures.proofs.Interval.{at-row, at-next}
 use Rattle.words.specs.Words.{wordAt}
 use Rattle.reading.specs.Tables.{column, pastRow, valueAt}
-use Rattle.reading.specs.Rows.{NotNegative}
+use Rattle.reading.specs.Tables.{NotNegative}
 use Rattle.reading.proofs.Within.{this-there, next-within}
 
 -- the next row's word

@@ -1,3 +1,2 @@
--- The definitions that `reading` and the crates above it cite: a table's value at an offset, and the row of a reduced northing.
+-- The definitions that `reading` and the crates above it cite: a table's value at an offset.
 pub mod Tables
-pub mod Rows

@@ -1,7 +1,8 @@
 -- Reading a table between its rows, over the body's part, whatever its step.
-use mathlib.Core.Bool.{Bool, _&&_}
+use mathlib.Core.Path.{_≡_}
+use mathlib.Core.Bool.{Bool, true, _&&_}
 use mathlib.Core.List.{List}
-use Prim.Native.Nat.{ℕ, _+_, _-_, _*_, _/_, _%_}
+use Prim.Native.Nat.{ℕ, _+_, _-_, _*_, _/_, _%_, _<_}
 use lib.IntN.{ℤ, pos}
 use lib.Signed.{leZ}
 use Rattle.figures.specs.Between.{between}
@@ -25,3 +26,7 @@ valueAt f step offset = pastRow f (offset / step) (offset % step) step
 -- which look at sizes, what is above.
 unfoldable pub withinRows : ℕ → ℕ → ℤ → Bool
 withinRows rows step z = leZ (pos 0) z && leZ z (pos ((rows - 1) * step))
+
+-- None of the first n rows is negative.
+unfoldable pub NotNegative : (ℕ → ℤ) → ℕ → Type 0
+NotNegative f n = (i : ℕ) → i < n → leZ (pos 0) (f i) ≡ true

@@ -1,7 +1,7 @@
 -- The rules of a latitude row's figures: their ranges, their bounds with the next row, and the differences over 60 seconds.
 use mathlib.Core.Bool.{Bool, _&&_}
 use lib.IntN.{pos, negℤ, _-ℤ_}
-use Rattle.figures.specs.Steps.{perSecond}
+use Rattle.steps.specs.Steps.{perSecond}
 use Rattle.rules.specs.declared.Figures.{Figures}
 use Rattle.rules.specs.declared.Differences.{Differences}
 use Rattle.rules.specs.Limits.{inRange, rises, sameAs}

@@ -4,7 +4,7 @@ ghost use mathlib.Core.Bool.{true};
 ghost use Prim.Native.Nat.{_≤_};
 ghost use lib.IntN.{natAbs, _-ℤ_};
 ghost use Rattle.figures.specs.Ranges.{mostScale, mostChange};
-ghost use Rattle.figures.specs.Steps.{perSecond};
+ghost use Rattle.steps.specs.Steps.{perSecond};
 ghost use Rattle.rules.specs.Limits.{inRange, rises, sameAs};
 ghost use Rattle.rules.specs.Latitude.{figuresInRange, withinBounds, differencesOf, noDifferences, sameDifferences};
 
@@ -77,7 +77,7 @@ fn over_minute(scale: u64, x: i32, next: i32) -> i32
     requires { ⌜ (scale ≤ mostScale) × (natAbs (next -ℤ x) ≤ mostChange) ⌝ }
     ensures { λ r. ⌜ r ≡ perSecond scale (next -ℤ x) ⌝ }
 {
-    figures::per_second(scale, rise(x, next)) as i32
+    steps::per_second(scale, rise(x, next)) as i32
 }
 
 // The differences of a row from its figures and the next row's, which are within their bounds.

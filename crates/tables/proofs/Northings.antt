@@ -16,7 +16,7 @@ use Rattle.entries.specs.Entries.{rowsOf, placeOf}
 use Rattle.bodies.specs.Check.{checkOf}
 use Rattle.bodies.proofs.Parts.{part-within, words-fit, start-fits, bytes-fit, end-fits}
 use Rattle.reading.specs.Tables.{column}
-use Rattle.reading.specs.Rows.{lastNotAbove, RisesBy}
+use Rattle.row_search.specs.Rows.{lastNotAbove, RisesBy}
 use Rattle.tables.specs.Figures.{y0Of}
 use Rattle.tables.proofs.Parts.{contents-none, cut, part-long}
 use Rattle.tables.proofs.Ranges.{latitude-some, y0-rises}

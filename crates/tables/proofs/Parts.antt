@@ -28,7 +28,7 @@ use Rattle.bodies.specs.Check.{checkOf}
 use Rattle.bodies.proofs.Sound.{passes-sound}
 use Rattle.bodies.proofs.Parts.{part-rows}
 use Rattle.reading.specs.Tables.{column, valueAt}
-use Rattle.reading.specs.Rows.{NotNegative}
+use Rattle.reading.specs.Tables.{NotNegative}
 use Rattle.reading.proofs.Within.{row-within}
 use Rattle.reading.proofs.Unsigned.{word-size}
 use Rattle.tables.specs.Figures.{figureOf, figureAt}

@@ -20,7 +20,8 @@ use Rattle.entries.specs.Entries.{rowsOf, bodyOf}
 use Rattle.contents.proofs.Passing.{rows-some}
 use Rattle.bodies.specs.Check.{checkOf}
 use Rattle.bodies.proofs.Sound.{passes-sound, zone-rows, latitude-rows, longitude-rows, northing-rows, easting-rows, scale-rows}
-use Rattle.reading.specs.Rows.{RisesBy, NotNegative}
+use Rattle.reading.specs.Tables.{NotNegative}
+use Rattle.row_search.specs.Rows.{RisesBy}
 use Rattle.reading.proofs.Values.{value-most, value-size, value-slope}
 use Rattle.tables.specs.Figures.{figureOf, figureAt, centralMeridian, falseEasting, firstLatitude, y0Of, y0At, hAt, aAt, bAt, cAt, dAt, kAt}
 use Rattle.tables.proofs.Parts.{contents-none}

@@ -10,7 +10,8 @@ ghost use Rattle.figures.specs.Ranges.{mostH, mostV, mostA, mostB, mostC, mostP
 ghost use Rattle.entries.specs.Layout.{lastKind, latitude, longitude, northing, easting, scale, widthOf, stepOf};
 ghost use Rattle.entries.specs.Entries.{rowsOf, placeOf, placesOf};
 ghost use Rattle.bodies.specs.Check.{checkOf};
-ghost use Rattle.reading.specs.Rows.{lastNotAbove, NotNegative};
+ghost use Rattle.reading.specs.Tables.{NotNegative};
+ghost use Rattle.row_search.specs.Rows.{lastNotAbove};
 ghost use Rattle.tables.specs.Figures.{figureOf, figureAt, centralMeridian, falseEasting, firstLatitude, y0Of, y0At, hAt, vAt, aAt, bAt, cAt, pAt, mAt, dAt, kAt};
 
 // The figure in row i of a column of the kind, where it is not negative. The body is lent on as the part of the sheet that holds it.
@@ -102,7 +103,7 @@ pub fn row_of(s: &[u8], place: Place, z: i64) -> usize
     let w = entries::width_of(entries::LATITUDE);
     let a = 4 * place.start;
     let end = a + 4 * (n * w);
-    reading::row_of(&s[a..end], w, 1, n, 600_000, 615_000, z)
+    row_search::row_of(&s[a..end], w, 1, n, 600_000, 615_000, z)
 }
 
 // y0 at t from row 0, in 0.01 ft.

@@ -81,7 +81,7 @@ fn show_latitude(s: &[u8], p: Places, t: u64)
 fn show_longitude(s: &[u8], p: Places, size: u64)
     requires { ⌜ (checkOf (now s) .number ≡ 0) × (p ≡ placesOf (now s)) × (size ≤ (rowsOf (now s) longitude - 1) * stepOf longitude) ⌝ }
 {
-    print_size(b" q ", figures::q_of(size));
+    print_size(b" q ", steps::q_of(size));
     print_figure(b" b ", tables::b_at(s, p, size));
     print_figure(b" c ", tables::c_at(s, p, size));
 }
@@ -120,7 +120,7 @@ fn show_reduction(s: &[u8], p: Places, x: u64, y: i32)
     let north = y as i64;
     let big_p = tables::p_at(s, p, north as u64);
     let d = tables::d_at(s, p, x);
-    let reduction = figures::reduction(big_p, x, d);
+    let reduction = steps::reduction(big_p, x, d);
     print_size(b" P ", big_p);
     print_figure(b" d ", d);
     print_figure(b" reduction ", reduction);
@@ -207,26 +207,26 @@ fn work_sheet(i: usize, points: &[[i32; 4]]) {
 fn step_forward(s: u64, h: u64, v: u64, a: i64, b: i64, c: i64)
     requires { ⌜ (s ≤ mostS) × (h ≤ mostH) × (v ≤ mostV) × (natAbs a ≤ mostA) × (natAbs b ≤ mostB) × (natAbs c ≤ mostC) × T (nonNeg (pos (h * s) +ℤ a *ℤ b *ℤ pos 1_000)) ⌝ }
 {
-    let q = figures::q_of(s);
+    let q = steps::q_of(s);
     print_size(b": q ", q);
-    print_size(b" x ", figures::size_of_x(h, s, a, b));
-    print_figure(b" rise ", figures::rise(v, q, c));
+    print_size(b" x ", steps::size_of_x(h, s, a, b));
+    print_figure(b" rise ", steps::rise(v, q, c));
 }
 
 // The steps back: the reduction, approximate L, and the size of L.
 fn step_back(x: u64, h: u64, a: i64, b: i64, p: u64, d: i64)
     requires { ⌜ (x ≤ mostX) × (0 < h) × (h ≤ mostH) × (natAbs a ≤ mostA) × (natAbs b ≤ mostB) × (p ≤ mostP) × (natAbs d ≤ mostD) × T (nonNeg (pos (x * 10_000) -ℤ a *ℤ b)) ⌝ }
 {
-    print_figure(b" reduction ", figures::reduction(p, x, d));
-    print_size(b" approximate ", figures::approximate_l(x, h));
-    print_size(b" L ", figures::size_of_l(x, a, b, h));
+    print_figure(b" reduction ", steps::reduction(p, x, d));
+    print_size(b" approximate ", steps::approximate_l(x, h));
+    print_size(b" L ", steps::size_of_l(x, a, b, h));
 }
 
 // Δα.
 fn step_across(m: u64, x: i64)
     requires { ⌜ (m ≤ mostM) × (natAbs x ≤ mostWord) ⌝ }
 {
-    print_figure(b" convergence ", figures::convergence(m, x));
+    print_figure(b" convergence ", steps::convergence(m, x));
     print(b"\n");
 }
 

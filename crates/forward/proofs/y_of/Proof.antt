@@ -5,8 +5,8 @@ use mir.Syntax.{w64}
 use mir.Val.{toZ, ofZ}
 use Prim.Native.Nat.{_≤_}
 use Rattle.figures.specs.Ranges.{mostQ}
-use Rattle.figures.specs.Steps.{qOf, rise}
-use Rattle.figures.proofs.StepBounds.{q-most}
+use Rattle.steps.specs.Steps.{qOf, rise}
+use Rattle.steps.proofs.StepBounds.{q-most}
 use Rattle.figures.proofs.Holds.{Holds, sum, sum-fits, cast, cast-fits}
 use Rattle.tables.specs.Figures.{y0At, vAt, cAt}
 use Rattle.tables.proofs.Ranges.{c-between}

@@ -3,7 +3,7 @@ use mathlib.Core.Path.{_≡_, ap, _∙_}
 use denote.Ref.{now}
 use mir.Syntax.{w64}
 use mir.Val.{toZ, ofZ}
-use Rattle.reading.specs.Rows.{lastNotAbove}
+use Rattle.row_search.specs.Rows.{lastNotAbove}
 use Rattle.tables.proofs.ByName.{latitude-place}
 use Rattle.extent.proofs.Reach.{reduced-reach}
 use Rattle.inverse.specs.Inverse.{rowOf, secondsPast}

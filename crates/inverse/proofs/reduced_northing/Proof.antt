@@ -6,7 +6,7 @@ use lib.IntN.{natAbs}
 use denote.Ref.{now}
 use mir.Syntax.{w64}
 use mir.Val.{ofZ}
-use Rattle.figures.specs.Steps.{reduction}
+use Rattle.steps.specs.Steps.{reduction}
 use Rattle.figures.proofs.Sizes.{size-nonNeg}
 use Rattle.figures.proofs.Holds.{Holds, difference, difference-fits, unsigned-fits, size-below}
 use Rattle.tables.specs.Figures.{pAt, dAt}

@@ -6,7 +6,7 @@ use lib.IntN.{_-ℤ_}
 use mir.Syntax.{w32}
 use mir.Val.{SFits, toZ, ofZ}
 use mir.Facts.{toZ-ofZ}
-use Rattle.figures.specs.Steps.{perSecond}
+use Rattle.steps.specs.Steps.{perSecond}
 use Rattle.rules.specs.Latitude.{differencesOf}
 use Rattle.rules.proofs.WhatPasses.{changes}
 use Rattle.rules.proofs.differences_of.Statement.{statement}

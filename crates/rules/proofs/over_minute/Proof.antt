@@ -5,10 +5,10 @@ use lib.IntN.{natAbs, _-ℤ_}
 use mir.Syntax.{w32, w64}
 use mir.Val.{ofZ}
 use mir.Facts.{toZ-ofZ}
-use Rattle.figures.specs.Steps.{perSecond}
+use Rattle.steps.specs.Steps.{perSecond}
 use Rattle.figures.specs.Ranges.{mostChange}
 use Rattle.figures.proofs.Holds.{Holds, held-result, cast, cast-fits, size-most, renamed}
-use Rattle.figures.proofs.StepBounds.{per-second-most}
+use Rattle.steps.proofs.StepBounds.{per-second-most}
 use borrow.Author.Needs.{needs}
 use Rattle.rules.proofs.over_minute.Statement.{statement}
 use Rattle.rules.proofs.over_minute.Tie as tie

@@ -4,7 +4,7 @@ use Prim.Native.Nat.{_≤_}
 use mir.Syntax.{w64}
 use mir.Val.{toZ, ofZ}
 use Rattle.figures.specs.Ranges.{mostQ}
-use Rattle.figures.proofs.StepBounds.{q-most}
+use Rattle.steps.proofs.StepBounds.{q-most}
 use borrow.Author.Needs.{needs}
 use Rattle.worked.proofs.step_forward.Statement.{statement}
 use Rattle.worked.proofs.step_forward.Tie as tie

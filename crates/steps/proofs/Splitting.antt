@@ -1,0 +1,108 @@
+-- A quotient by K·2h is rounded as the quotient by 2h is, once what is below K has been dropped toward zero: so a product that passes 64 bits is worked in parts.
+-- Assumes nothing.
+use mathlib.Core.Path.{_≡_, refl, sym, ap, subst, _∙_}
+use mathlib.Core.Bool.{true, false}
+use Prim.Native.Nat.{ℕ, zero, suc, _+_, _*_, _-_, _/_, _%_, _<_, _≤_, zero-le}
+use native.Mathlib.Nat.{le-refl, le-suc, mul-le-mul-right, mul-pos, div-add-mod', mod-lt, mul-comm, mul-left-comm, add-mul, sub-zero, mul-div-cancel}
+use native.Mathlib.Omega.{arith}
+use lib.Arith.{digits-div}
+use lib.Dec.{T}
+use borrow.Author.Tests.{le-leb}
+use lib.IntN.{ℤ, pos, negsuc, negℤ, natAbs, _+ℤ_, _*ℤ_, +ℤ-one, negℤ-+ℤ, -ℤ-+ℤ-cancel}
+use lib.Signed.{leZ}
+use Rattle.figures.specs.Nearest.{withSign, nearestSize, nearest}
+use Rattle.steps.specs.Wide.{towardZero}
+use Rattle.figures.proofs.Ring.{swap-last, sum-times, times-assoc}
+use Rattle.figures.proofs.Sizes.{size-minus}
+use Rattle.figures.proofs.Rounding.{IsNearest, is-nearest, only-nearest, nearest-minus}
+
+-- ---- `towardZero`, as the tests of its code show it
+pub toward-up : (t : ℤ) (e : ℕ) → leZ (pos 0) t ≡ true → towardZero t e ≡ t
+unfolding towardZero
+toward-up (pos n) e h = refl
+toward-up (negsuc n) e h = absurd (subst T (sym h) tt)
+
+pub toward-exact : (t : ℤ) → towardZero t 0 ≡ t
+unfolding towardZero
+toward-exact (pos n) = refl
+toward-exact (negsuc n) = refl
+
+pub toward-next : (t : ℤ) (e : ℕ) → leZ (pos 0) t ≡ false → (e ≡ 0 → ⊥) → towardZero t e ≡ t +ℤ pos 1
+unfolding towardZero
+toward-next (pos n) e h k = absurd (subst T (sym (le-leb 0 n zero-le) ∙ h) tt)
+toward-next (negsuc n) zero h k = absurd (k refl)
+toward-next (negsuc zero) (suc e) h k = sym (+ℤ-one (negsuc zero))
+toward-next (negsuc (suc n)) (suc e) h k = sym (+ℤ-one (negsuc (suc n)))
+
+pub size-toward : (t : ℤ) (e : ℕ) → natAbs (towardZero t e) ≤ natAbs t
+unfolding towardZero
+size-toward (pos n) e = le-refl n
+size-toward (negsuc n) zero = le-refl (suc n)
+size-toward (negsuc n) (suc e) = rw size-minus (le-suc n)
+
+-- ---- what is below K is dropped
+-- of a size: r·2h − h ≤ n/K < r·2h + h, with n/K rounded down, times K
+keeps-nearest : (n K h r : ℕ) → 0 < K → IsNearest (n / K) (2 * h) r → IsNearest n (K * (2 * h)) r
+keeps-nearest n K h r k known =
+    let turned : r * (K * (2 * h)) ≡ r * (2 * h) * K = mul-left-comm r K (2 * h) ∙ mul-comm K (r * (2 * h)) in
+    let half : K * (2 * h) ≡ 2 * (h * K) = mul-left-comm K 2 h ∙ ap (λ (x : ℕ). 2 * x) (mul-comm K h) in
+    let below : r * (2 * h) ≤ n / K + h = omega (arith, known .low) in
+    let above : n / K + 1 ≤ r * (2 * h) + h = omega (arith, known .high) in
+    record {
+      low = omega (arith, turned, half, mul-le-mul-right K below, add-mul (n / K) h K, div-add-mod' n K);
+      high = omega (arith, turned, half, mul-le-mul-right K above, add-mul (n / K) 1 K, add-mul (r * (2 * h)) h K, div-add-mod' n K, mod-lt n k);
+    }
+
+pub drop-below : (n K h : ℕ) → 0 < K → 0 < h → nearestSize n (K * (2 * h)) ≡ nearestSize (n / K) (2 * h)
+drop-below n K h k j =
+    only-nearest (keeps-nearest n K h (nearestSize (n / K) (2 * h)) k (is-nearest (n / K) (2 * h) (omega arith)))
+
+minus-plus : (a e : ℕ) → e ≤ a → negℤ (pos a) +ℤ pos e ≡ negℤ (pos (a - e))
+minus-plus a e h =
+    let split : a ≡ (a - e) + e = omega arith in
+    ap (λ (x : ℕ). negℤ (pos x) +ℤ pos e) split
+    ∙ ap (λ (x : ℤ). x +ℤ pos e) (negℤ-+ℤ (pos (a - e)) (pos e))
+    ∙ -ℤ-+ℤ-cancel (negℤ (pos (a - e))) (pos e)
+
+-- (n + 1 less e/K) rounded down, for e below K: n + 1 where e is 0, else n
+pub dropped : (n e K : ℕ) → e < K → negℤ (pos ((suc n * K - e) / K)) ≡ towardZero (negsuc n) e
+unfolding towardZero
+dropped n zero K k = ap (λ (x : ℕ). negℤ (pos x)) (ap (λ (x : ℕ). x / K) (sub-zero (suc n * K)) ∙ mul-div-cancel (suc n) k)
+dropped n (suc e) K k =
+    let rest : suc n * K - suc e ≡ n * K + (K - suc e) = omega arith in
+    ap (λ (x : ℕ). negℤ (pos x)) (ap (λ (x : ℕ). x / K) rest ∙ digits-div n (omega arith))
+
+-- of a signed number t·K + e, e from 0 to below K
+pub drop-low : (t : ℤ) (e K h : ℕ) → e < K → 0 < h → nearest (t *ℤ pos K +ℤ pos e) (K * (2 * h)) ≡ nearest (towardZero t e) (2 * h)
+unfolding nearest withSign towardZero
+drop-low (pos n) e K h k j = ap pos (drop-below (n * K + e) K h (omega arith) j ∙ ap (λ (x : ℕ). nearestSize x (2 * h)) (digits-div n k))
+drop-low (negsuc n) e K h k j =
+    let low : e ≤ suc n * K = omega (arith, mul-le-mul-right K (zero-le {n = n})) in
+    ap (λ (x : ℤ). nearest x (K * (2 * h))) (minus-plus (suc n * K) e low)
+    ∙ nearest-minus (suc n * K - e) (K * (2 * h)) (mul-pos (omega arith) (omega arith))
+    ∙ ap (λ (x : ℕ). negℤ (pos x)) (drop-below (suc n * K - e) K h (omega arith) j)
+    ∙ sym (nearest-minus ((suc n * K - e) / K) (2 * h) (omega arith))
+    ∙ ap (λ (x : ℤ). nearest x (2 * h)) (dropped n e K k)
+
+-- ---- a wide product in parts
+-- p·n, with n split at K: both products of a part are small
+pub split : (p n K : ℕ) → p * n ≡ (p * (n / K) + p * (n % K) / K) * K + p * (n % K) % K
+split p n K = omega (arith, ap (λ (x : ℕ). p * x) (div-add-mod' n K), div-add-mod' (p * (n % K)) K)
+
+-- a·K + e + d·(H·K) = (a + d·H)·K + e
+pub gather : (a e K H : ℕ) (d : ℤ) → pos (a * K + e) +ℤ d *ℤ pos (H * K) ≡ (pos a +ℤ d *ℤ pos H) *ℤ pos K +ℤ pos e
+gather a e K H d =
+    swap-last (pos (a * K)) (pos e) (d *ℤ pos (H * K))
+    ∙ ap (λ (x : ℤ). pos (a * K) +ℤ x +ℤ pos e) (sym (times-assoc d (pos H) (pos K)))
+    ∙ ap (λ (x : ℤ). x +ℤ pos e) (sym (sum-times (pos a) (d *ℤ pos H) (pos K)))
+
+-- p·n + d·D, for D = 2h·K, is rounded by D through parts split at K
+pub wide-nearest : (p n K h : ℕ) (d : ℤ) → 0 < K → 0 < h
+    → nearest (pos (p * n) +ℤ d *ℤ pos (2 * h * K)) (K * (2 * h))
+    ≡ nearest (towardZero (pos (p * (n / K) + p * (n % K) / K) +ℤ d *ℤ pos (2 * h)) (p * (n % K) % K)) (2 * h)
+wide-nearest p n K h d k j =
+    let whole = p * (n / K) + p * (n % K) / K in
+    let rest = p * (n % K) % K in
+    ap (λ (m : ℕ). nearest (pos m +ℤ d *ℤ pos (2 * h * K)) (K * (2 * h))) (split p n K)
+    ∙ ap (λ (z : ℤ). nearest z (K * (2 * h))) (gather whole rest K (2 * h) d)
+    ∙ drop-low (pos whole +ℤ d *ℤ pos (2 * h)) rest K h (mod-lt (p * (n % K)) k) j

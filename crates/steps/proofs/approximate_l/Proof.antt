@@ -1,0 +1,18 @@
+-- `figures::approximate_l` meets its contract. Assumes nothing.
+use borrow.Author.Needs.{needs}
+use Rattle.steps.specs.Steps.{approximateL}
+use Rattle.steps.proofs.approximate_l.Statement.{statement}
+use Rattle.steps.proofs.approximate_l.Tie as tie
+
+returns : tie.Need-returns
+unfolding approximateL
+returns c = c .nearest-size .ensures
+
+mul-nearest-size : tie.Need-mul-nearest-size
+mul-nearest-size c = search needs
+
+nearest-size-requires : tie.Need-nearest-size-requires
+nearest-size-requires c κs = search needs
+
+pub approximate-l-spec : {M : Type 1} → statement M
+approximate-l-spec = tie.close (tie.spec mul-nearest-size nearest-size-requires returns)

@@ -1,0 +1,35 @@
+-- `figures::convergence` meets its contract. Assumes nothing.
+use borrow.Author.Needs.{needs}
+use lib.Dec.{lit<, lit≤}
+use lib.IntN.{pos}
+use mir.Syntax.{w64}
+use mir.Val.{ofZ}
+use Rattle.steps.specs.Steps.{convergence}
+use Rattle.figures.specs.Ranges.{mostM, mostWord}
+use Rattle.figures.proofs.Holds.{Holds, held, held-size, product-fits, product, size-most}
+use Rattle.figures.proofs.Rounding.{rounded}
+use Rattle.steps.proofs.convergence.Statement.{statement}
+use Rattle.steps.proofs.convergence.Tie as tie
+
+module _ (c : tie.Start) where
+  m : Holds w64 (c .args .m) (pos (c .args .m)) mostM
+  m = held-size w64 (c .pre .0) tt
+
+  x : Holds w64 (ofZ w64 (c .args .x)) (c .args .x) mostWord
+  x = held (c .fits .x) (c .pre .1)
+
+returns : tie.Need-returns
+unfolding convergence
+returns c = rounded 100_000_000 (product (m (c .before)) (x (c .before)) tt) (c .nearest .ok) (c .nearest .ensures)
+
+cast-nearest : tie.Need-cast-nearest
+cast-nearest c = search needs
+
+mul-nearest : tie.Need-mul-nearest
+mul-nearest c = product-fits (m c) (x c) tt
+
+nearest-requires : tie.Need-nearest-requires
+nearest-requires c κs = (size-most (product (m c) (x c) tt) tt, lit< tt, lit≤ tt)
+
+pub convergence-spec : {M : Type 1} → statement M
+convergence-spec = tie.close (tie.spec cast-nearest mul-nearest nearest-requires returns)

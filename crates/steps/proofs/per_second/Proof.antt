@@ -1,0 +1,36 @@
+-- `figures::per_second` meets its contract. Assumes nothing.
+use borrow.Author.Needs.{needs}
+use lib.Dec.{lit<, lit≤}
+use Prim.Native.Nat.{_+_}
+use lib.IntN.{pos}
+use mir.Syntax.{w64}
+use mir.Val.{ofZ}
+use Rattle.steps.specs.Steps.{perSecond}
+use Rattle.figures.specs.Ranges.{mostWord, mostScale}
+use Rattle.figures.proofs.Holds.{Holds, held, held-size, product-fits, product, size-most}
+use Rattle.figures.proofs.Rounding.{rounded}
+use Rattle.steps.proofs.per_second.Statement.{statement}
+use Rattle.steps.proofs.per_second.Tie as tie
+
+module _ (c : tie.Start) where
+  scale : Holds w64 (c .args .scale) (pos (c .args .scale)) mostScale
+  scale = held-size w64 (c .pre .0) tt
+
+  difference : Holds w64 (ofZ w64 (c .args .difference)) (c .args .difference) (mostWord + mostWord)
+  difference = held (c .fits .difference) (c .pre .1)
+
+returns : tie.Need-returns
+unfolding perSecond
+returns c = rounded 60 (product (scale (c .before)) (difference (c .before)) tt) (c .nearest .ok) (c .nearest .ensures)
+
+cast-nearest : tie.Need-cast-nearest
+cast-nearest c = search needs
+
+mul-nearest : tie.Need-mul-nearest
+mul-nearest c = product-fits (scale c) (difference c) tt
+
+nearest-requires : tie.Need-nearest-requires
+nearest-requires c κs = (size-most (product (scale c) (difference c) tt) tt, lit< tt, lit≤ tt)
+
+pub per-second-spec : {M : Type 1} → statement M
+per-second-spec = tie.close (tie.spec cast-nearest mul-nearest nearest-requires returns)

@@ -1,0 +1,3 @@
+-- The definitions of the Survey's printed steps.
+pub mod Steps
+pub mod Wide
