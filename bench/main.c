@@ -1,6 +1,7 @@
 // Times the library beside the plain C of the same rules, on the sheets that its arguments name. The two run in turn, so that what else the machine does falls on
-// both: nanoseconds a call, the least of all turns; the ratio of these, the library's to the plain C's, with the middle one of the turns' own ratios; and the
-// library's speed as a part of the plain C's. First it compares their answers, on each sheet and on many with a few words changed.
+// both. First it compares their answers, on each sheet and on many with a few words changed. It prints a line for each operation and sheet, with a tab between:
+// operation, sheet, what a time is of, the library's and the plain C's nanoseconds, each the least of all turns, the ratio of these, the library's to the plain C's,
+// the middle one of the turns' own ratios, the goal ("-" where none was set), and what was compared.
 #include <stdio.h>
 #include <stdlib.h>
 #include <string.h>
@@ -16,7 +17,12 @@ greatest bannerscale_convergence(const uint8_t *sheet, size_t length, const int3
 
 counted bannerscale_batch(const uint8_t *sheet, size_t length, const int32_t *points, size_t numbers, int32_t *answers, size_t room);
 
-enum { CHANGED = 200000, TURNS = 101, CALLS = 1000, ROOM = 65536, POINTS = 100000, MOST = 4096, BATCHES = 2000, AGAIN = 25 };
+uint32_t bannerscale_correct(uint8_t *sheet, size_t length, int32_t minute, int32_t y0, int32_t h, int32_t v, int32_t a);
+
+enum { CHANGED = 200000, CORRECTED = 200000, TURNS = 301, CALLS = 1000, CORRECTIONS = 10000, ROOM = 65536, POINTS = 100000, MOST = 4096, BATCHES = 2000, AGAIN = 25 };
+
+// A time ratio of at most this: the check's and the conversions' goal, and the batch's, which was set as a speed of at least 0.8 of the plain C's.
+static const char GOAL[] = "1.25", NONE[] = "-";
 
 static int same(verdict a, verdict b) { return a.number == b.number && a.kind == b.kind && a.row == b.row; }
 
@@ -42,6 +48,9 @@ static void change(uint8_t *sheet, size_t length) {
     word[0] = v >> 24, word[1] = v >> 16, word[2] = v >> 8, word[3] = v;
 }
 
+// Mostly the whole sheet, at times a few bytes less.
+static size_t some_length(size_t length) { return next() % 64 ? length : length - next() % 9; }
+
 // How many of the changed sheets the two answer differently.
 static int differences(const uint8_t *sheet, size_t length, int seen[10]) {
     static uint8_t copy[ROOM];
@@ -49,7 +58,8 @@ static int differences(const uint8_t *sheet, size_t length, int seen[10]) {
     for (int k = 0; k < CHANGED; k++) {
         memcpy(copy, sheet, length);
         for (int n = next() % 3; n >= 0; n--) change(copy, length);
-        verdict ours = bannerscale_check(copy, length), plain = plain_check(copy, length);
+        size_t given = some_length(length);
+        verdict ours = bannerscale_check(copy, given), plain = plain_check(copy, given);
         seen[plain.number]++;
         if (!same(ours, plain)) count++;
     }
@@ -72,12 +82,23 @@ static int rising(const void *a, const void *b) {
     return (x > y) - (x < y);
 }
 
-static void say_times(times *t, const char *each) {
+// The sheet's name, without its folder and its ending.
+static const char *short_name(const char *file) {
+    static char name[64];
+    const char *slash = strrchr(file, '/');
+    snprintf(name, sizeof name, "%s", slash ? slash + 1 : file);
+    char *end = strrchr(name, '.');
+    if (end) *end = 0;
+    return name;
+}
+
+// A line of the table, up to what was compared.
+static void say_times(const char *operation, const char *file, const char *each, times *t, const char *goal) {
     double ratio[TURNS];
     for (int k = 0; k < TURNS; k++) ratio[k] = t->ours[k] / t->plain[k];
     qsort(t->ours, TURNS, sizeof(double), rising), qsort(t->plain, TURNS, sizeof(double), rising), qsort(ratio, TURNS, sizeof(double), rising);
     double a = t->ours[0], b = t->plain[0];
-    printf("library %.1f ns%s, plain C %.1f ns, ratio %.2f (middle %.2f), speed %.2f\n", a, each, b, a / b, ratio[TURNS / 2], b / a);
+    printf("%s\t%s\t%s\t%.1f\t%.1f\t%.2f\t%.2f\t%s\t", operation, short_name(file), each, a, b, a / b, ratio[TURNS / 2], goal);
 }
 
 typedef verdict check(const uint8_t *, size_t);
@@ -107,8 +128,8 @@ static int compare(const char *name, const char *file, over *ours, over *plain, 
     }
     times t;
     for (int k = 0; k < TURNS; k++) t.ours[k] = time_points(ours, sheet, length, points), t.plain[k] = time_points(plain, sheet, length, points);
-    printf("%s %s: %d of %d points answered differently; ", name, file, differ, POINTS);
-    say_times(&t, " a point");
+    say_times(name, file, "point", &t, GOAL);
+    printf("%d of %d points answered differently\n", differ, POINTS);
     return differ;
 }
 
@@ -178,8 +199,89 @@ static int batches(const char *file, const uint8_t *sheet, size_t length, const 
     differ += batch_differs(sheet, length, earth, 2 * MOST, 3 * MOST, &c);
     times t;
     for (int k = 0; k < TURNS; k++) t.ours[k] = time_batch(bannerscale_batch, sheet, length, earth), t.plain[k] = time_batch(plain_batch, sheet, length, earth);
-    printf("batch %s: %d of %d batches answered differently (%d refused; %ld of %ld points answered); ", file, differ, BATCHES + 1, refused, answered, all);
-    say_times(&t, " a point");
+    say_times("batch", file, "point", &t, GOAL);
+    printf("%d of %d batches answered differently (%d refused; %ld of %ld points answered)\n", differ, BATCHES + 1, refused, answered, all);
+    return differ;
+}
+
+// ---- the correction
+
+typedef uint32_t correct(uint8_t *, size_t, int32_t, int32_t, int32_t, int32_t, int32_t);
+
+typedef struct {
+    int32_t minute, y0, h, v, a;
+} correction;
+
+// The figures of latitude row r, which begins at word `at`, for its own minute.
+static correction as_it_is(const uint8_t *sheet, size_t at) {
+    return (correction){word(sheet, at), word(sheet, at + 1), word(sheet, at + 3), word(sheet, at + 5), word(sheet, at + 7)};
+}
+
+static int32_t moved(int32_t x, uint32_t by) { return (int32_t)((uint32_t)x + (uint32_t)(next() % (2 * (uint64_t)by + 1)) - by); }
+
+// A correction of any row of the sheet: most move its figures by so little that they are accepted, some by more than the bounds allow, and some name another minute or
+// have a figure at, or past, the end of its range, or anywhere.
+static correction any_correction(const uint8_t *sheet, const places *p) {
+    static const int32_t ENDS[] = {-1, 0, 999999999, 1000000000, 29999999, 30000000, 102000000, 102000001, 1400000, 1400001, -2001, -2000, 2000, 2001, INT32_MIN, INT32_MAX};
+    correction c = as_it_is(sheet, p->start[2] + 8 * (next() % p->rows[2]));
+    c.y0 = moved(c.y0, 3000), c.h = moved(c.h, 100), c.v = moved(c.v, 50), c.a = moved(c.a, 3);
+    int32_t *figure[] = {&c.y0, &c.h, &c.v, &c.a}, *one = figure[next() % 4];
+    switch (next() % 10) {
+    case 0: *one = moved(*one, 40000); break;
+    case 1: *one = moved(*one, 1000); break;
+    case 2: *one = moved(*one, 10); break;
+    case 3: *one = ENDS[next() % (sizeof ENDS / sizeof *ENDS)]; break;
+    case 4: *one = (int32_t)next(); break;
+    case 5: c.minute = next() % 2 ? moved(c.minute, p->rows[2]) : (int32_t)next();
+    }
+    return c;
+}
+
+// One correction after another by each on the same sheet, in the end anew on the sheet itself or on it with a few words changed: how often the answers or any byte
+// differ, or an accepted correction of a sheet that passes leaves one that does not.
+static int corrections_differ(const uint8_t *sheet, size_t length, const places *p, int seen[19]) {
+    static uint8_t ours[ROOM], plain[ROOM];
+    int differ = 0, passes = 0;
+    for (int k = 0; k < CORRECTED; k++) {
+        if (k % 64 == 0) {
+            memcpy(ours, sheet, length);
+            if (next() % 4 == 0) change(ours, next() % 2 ? 76 : length);
+            memcpy(plain, ours, length);
+            passes = plain_check(ours, length).number == 0;
+        }
+        correction c = any_correction(ours, p);
+        size_t given = some_length(length);
+        uint32_t a = bannerscale_correct(ours, given, c.minute, c.y0, c.h, c.v, c.a), b = plain_correct(plain, given, c.minute, c.y0, c.h, c.v, c.a);
+        seen[b]++;
+        differ += a != b || memcmp(ours, plain, ROOM) != 0 || (passes && bannerscale_check(ours, length).number != 0);
+    }
+    return differ;
+}
+
+// The row in the middle, back and forth between its figures and others.
+static double time_correct(correct *f, uint8_t *sheet, size_t length, const correction c[2]) {
+    volatile uint32_t sum = 0;
+    double from = now();
+    for (int k = 0; k < CORRECTIONS; k++) sum += f(sheet, length, c[k % 2].minute, c[k % 2].y0, c[k % 2].h, c[k % 2].v, c[k % 2].a);
+    double spent = (now() - from) / CORRECTIONS;
+    if (sum) fprintf(stderr, "a correction was refused\n"), exit(1);
+    return spent;
+}
+
+static int corrections(const char *file, const uint8_t *sheet, size_t length) {
+    static uint8_t ours[ROOM], plain[ROOM];
+    places p = plain_places(sheet);
+    int seen[19] = {0}, differ = corrections_differ(sheet, length, &p, seen);
+    correction old = as_it_is(sheet, p.start[2] + 8 * (p.rows[2] / 2)), new = {old.minute, old.y0 + 70, old.h - 5, old.v + 3, old.a + 1}, both[2] = {new, old};
+    memcpy(ours, sheet, length), memcpy(plain, sheet, length);
+    times t;
+    for (int k = 0; k < TURNS; k++) t.ours[k] = time_correct(bannerscale_correct, ours, length, both), t.plain[k] = time_correct(plain_correct, plain, length, both);
+    differ += memcmp(ours, sheet, length) != 0 || memcmp(plain, sheet, length) != 0;
+    say_times("correction", file, "call", &t, NONE);
+    printf("%d of %d corrections answered or written differently (by number", differ, CORRECTED);
+    for (int n = 0, first = 1; n < 19; n++)
+        if (seen[n]) printf("%s %d: %d", first ? "" : ",", n, seen[n]), first = 0;
+    printf(")\n");
     return differ;
 }
 
@@ -193,21 +295,27 @@ static int conversions(const char *file, const uint8_t *sheet, size_t length) {
          + batches(file, sheet, length, earth);
 }
 
+// The check: the sheet itself, then changed ones; then the sheet, timed.
+static int checks(const char *file, const uint8_t *sheet, size_t length) {
+    int seen[10] = {0}, differ = !same(bannerscale_check(sheet, length), plain_check(sheet, length)) + differences(sheet, length, seen);
+    times t;
+    for (int k = 0; k < TURNS; k++) t.ours[k] = time_check(bannerscale_check, sheet, length), t.plain[k] = time_check(plain_check, sheet, length);
+    say_times("check", file, "call", &t, GOAL);
+    printf("%d of %d sheets answered differently (by number", differ, CHANGED + 1);
+    for (int n = 0, first = 1; n < 10; n++)
+        if (seen[n]) printf("%s %d: %d", first ? "" : ",", n, seen[n]), first = 0;
+    printf(")\n");
+    return differ;
+}
+
 int main(int count, char **names) {
-    int seen[10] = {0};
     for (int k = 1; k < count; k++) {
         static uint8_t sheet[ROOM];
         FILE *file = fopen(names[k], "rb");
         if (!file) return perror(names[k]), 1;
         size_t length = fread(sheet, 1, sizeof sheet, file);
         fclose(file);
-        int differ = !same(bannerscale_check(sheet, length), plain_check(sheet, length)) + differences(sheet, length, seen);
-        times t;
-        for (int n = 0; n < TURNS; n++) t.ours[n] = time_check(bannerscale_check, sheet, length), t.plain[n] = time_check(plain_check, sheet, length);
-        printf("check %s: %d of %d changed sheets answered differently; ", names[k], differ, CHANGED);
-        say_times(&t, "");
-        if (differ + conversions(names[k], sheet, length)) return 1;
+        if (checks(names[k], sheet, length) + conversions(names[k], sheet, length) + corrections(names[k], sheet, length)) return 1;
     }
-    for (int n = 0; n < 10; n++) printf("number %d: %d\n", n, seen[n]);
     return 0;
 }

@@ -1,4 +1,4 @@
-// The check and the conversions in plain C: the same rules in the same order, with no proofs. They stand beside the library as the measure of its speed.
+// The check, the conversions and the correction in plain C: the same rules in the same order, with no proofs. They stand beside the library as the measure of its speed.
 #include "plain.h"
 
 static int32_t word(const uint8_t *s, size_t i) {
@@ -55,10 +55,11 @@ static uint32_t row_fault(size_t kind, const uint8_t *b, size_t n, size_t i) {
     }
 }
 
-verdict plain_check(const uint8_t *s, size_t length) {
+// Numbers 1 to 5, and where each kind's body starts and its rows. Inlined: the check and the correction each hold it.
+__attribute__((always_inline)) static inline verdict contents(const uint8_t *s, size_t length, size_t start[7], size_t rows[7]) {
+    size_t due = 19;
     if (length < 76 || length > 65532 || length % 4) return found(1, 0, 0);
     if (word(s, 0) != 6) return found(2, 0, 0);
-    size_t start[7] = {0}, rows[7] = {0}, due = 19;
     for (size_t e = 0; e < 6; e++) {
         int32_t kind = word(s, 3 * e + 1), n = word(s, 3 * e + 3);
         if (kind < 1 || kind > 6) return found(2, 0, e + 1);
@@ -69,12 +70,64 @@ verdict plain_check(const uint8_t *s, size_t length) {
         due += n * WIDTH[kind];
     }
     if (4 * due != length) return found(5, 0, 7);
+    return found(0, 0, 0);
+}
+
+verdict plain_check(const uint8_t *s, size_t length) {
+    size_t start[7] = {0}, rows[7] = {0};
+    verdict c = contents(s, length, start, rows);
+    if (c.number) return c;
     for (size_t kind = 1; kind <= 6; kind++)
         for (size_t i = 0; i < rows[kind]; i++) {
             uint32_t number = row_fault(kind, s + 4 * start[kind], rows[kind], i);
             if (number) return found(number, kind, i);
         }
     return found(0, 0, 0);
+}
+
+// ---- the correction
+
+typedef struct {
+    int64_t y0, h, v, a;
+} figures;
+
+static figures figures_at(const uint8_t *b, size_t i) { return (figures){word(b, 8 * i + 1), word(b, 8 * i + 3), word(b, 8 * i + 5), word(b, 8 * i + 7)}; }
+
+static int in_ranges(figures f) { return within(0, f.y0, 999999999) && within(30000000, f.h, 102000000) && within(0, f.v, 1400000) && within(-2000, f.a, 2000); }
+
+static int bounded(figures f, figures next) {
+    return within(600000, next.y0 - f.y0, 615000) && within(1, f.h - next.h, 50000) && within(-1000, next.v - f.v, 1000) && within(-10, next.a - f.a, 10);
+}
+
+static void put_word(uint8_t *s, size_t i, int32_t value) {
+    uint8_t *p = s + 4 * i;
+    uint32_t n = (uint32_t)value;
+    p[0] = n >> 24, p[1] = n >> 16, p[2] = n >> 8, p[3] = n;
+}
+
+static void put_differences(uint8_t *b, size_t i, int64_t y, int64_t h, int64_t v) { put_word(b, 8 * i + 2, y), put_word(b, 8 * i + 4, h), put_word(b, 8 * i + 6, v); }
+
+// Row i's differences to the next row, whose figures are given.
+static void rework(uint8_t *b, size_t i, figures f, figures next) {
+    put_differences(b, i, nearest(1000 * (next.y0 - f.y0), 60), nearest(100 * (f.h - next.h), 60), nearest(100 * (next.v - f.v), 60));
+}
+
+uint32_t plain_correct(uint8_t *s, size_t length, int32_t minute, int32_t y0, int32_t h, int32_t v, int32_t a) {
+    size_t start[7] = {0}, rows[7] = {0};
+    uint32_t number = contents(s, length, start, rows).number;
+    if (number) return number;
+    uint8_t *b = s + 4 * start[2];
+    int64_t n = rows[2], r = (int64_t)minute - word(b, 0);
+    if (!within(0, r, n - 1) || word(b, 8 * r) != minute) return 16;
+    figures f = {y0, h, v, a}, before = {0}, after = {0};
+    if (!in_ranges(f)) return 6;
+    if (r > 0 && (before = figures_at(b, r - 1), !bounded(before, f))) return 8;
+    if (r + 1 < n && (after = figures_at(b, r + 1), !bounded(f, after))) return 8;
+    put_word(b, 8 * r + 1, y0), put_word(b, 8 * r + 3, h), put_word(b, 8 * r + 5, v), put_word(b, 8 * r + 7, a);
+    if (r + 1 < n) rework(b, r, f, after);
+    else put_differences(b, r, 0, 0, 0);
+    if (r > 0) rework(b, r - 1, before, f);
+    return 0;
 }
 
 // Each table's step, in the unit of what it is read at: 0.001″, 0.001″, 1″ (for the approximate L) and 0.01 ft.

@@ -9,6 +9,9 @@ typedef struct {
 
 verdict plain_check(const uint8_t *sheet, size_t length);
 
+// New figures of the minute's latitude row: 0 where they are written, with the differences that they move; else a refusal number, and the sheet stays as it was.
+uint32_t plain_correct(uint8_t *sheet, size_t length, int32_t minute, int32_t y0, int32_t h, int32_t v, int32_t a);
+
 // Each kind's first word and its rows, worked once a sheet. It and the conversions are for a sheet that passes the check.
 typedef struct {
     uint32_t start[7], rows[7];
