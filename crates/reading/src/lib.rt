@@ -40,12 +40,27 @@ pub fn cut(k: u64, last: usize) -> usize
     if k < (last as u64) { k as usize } else { last }
 }
 
+// 1 where k is beyond the last, and else 0.
+fn beyond(k: u64, last: u64) -> u64
+    ensures { λ r. ⌜ (last < k → r ≡ 1) × (k ≤ last → r ≡ 0) ⌝ }
+{
+    if last < k { 1 } else { 0 }
+}
+
+// Row k of n, or the one before it where k is the last, so that there is a next. Worked without a choice between the two, which the compiler may make a jump.
+fn with_next(k: u64, n: usize) -> usize
+    requires { ⌜ (2 ≤ n) × (k < n) ⌝ }
+    ensures { λ r. ⌜ r ≡ min k (n - 2) ⌝ }
+{
+    (k - beyond(k, (n - 2) as u64)) as usize
+}
+
 // The value of column c of n rows at an offset from row 0. The last row is read as a whole step past the one before it, so that there is always a next.
 pub fn value_at(b: &[u8], w: usize, c: usize, n: usize, step: u64, offset: u64) -> i64
     requires { ⌜ (2 ≤ n) × (4 * (w * n) ≤ length (now b)) × (c < w) × (0 < step) × (step ≤ mostStep) × (offset ≤ (n - 1) * step) ⌝ }
     ensures { λ r. ⌜ r ≡ valueAt (column (now (b .entry)) w c) step offset ⌝ }
 {
-    let i = cut(offset / step, n - 2);
+    let i = with_next(offset / step, n);
     past_row(b, w, c, i, offset - (i as u64) * step, step)
 }
 
@@ -54,7 +69,7 @@ pub fn size_at(b: &[u8], w: usize, c: usize, n: usize, step: u64, offset: u64) -
     requires { ⌜ (2 ≤ n) × (4 * (w * n) ≤ length (now b)) × (c < w) × (0 < step) × (step ≤ mostStep) × (offset ≤ (n - 1) * step) × NotNegative (column (now b) w c) n ⌝ }
     ensures { λ r. ⌜ pos r ≡ valueAt (column (now (b .entry)) w c) step offset ⌝ }
 {
-    let i = cut(offset / step, n - 2);
+    let i = with_next(offset / step, n);
     size_past_row(b, w, c, i, offset - (i as u64) * step, step)
 }
 

@@ -3,6 +3,7 @@ use mathlib.Core.Path.{_∙_}
 use native.Mathlib.Omega.{arith}
 use Rattle.reading.specs.Tables.{column}
 use Rattle.reading.proofs.Pairs.{back-most, past-most, pair-value, pair-within, pair-sizes}
+use Rattle.reading.proofs.Within.{this-there}
 use borrow.Author.Needs.{needs}
 use Rattle.reading.proofs.size_at.Statement.{statement}
 use Rattle.reading.proofs.size_at.Tie as tie
@@ -10,31 +11,28 @@ use Rattle.reading.proofs.size_at.Tie as tie
 returns : tie.Need-returns
 returns c =
     let p = c .before .before .before .pre in
-    c .size-past-row .ensures ∙ pair-value _ _ _ _ (p .0) (p .3) (p .5) (c .before .cut .ensures) _
+    c .size-past-row .ensures ∙ pair-value _ _ _ _ (p .0) (p .3) (p .5) (c .before .with-next .ensures) _
 
-div-cut : tie.Need-div-cut
-div-cut c = search needs
+div-with-next : tie.Need-div-with-next
+div-with-next c = search needs
 
-sub-cut : tie.Need-sub-cut
-sub-cut c = search needs
-
-cut-requires : tie.Need-cut-requires
-cut-requires c κs = search needs
+with-next-requires : tie.Need-with-next-requires
+with-next-requires c κs = let p = c .before .pre in (p .0, this-there _ _ _ (p .3) (omega (arith, p .0)) (p .5))
 
 mul-size-past-row : tie.Need-mul-size-past-row
 mul-size-past-row c =
     let p = c .before .before .pre in
-    let most = back-most _ _ _ _ (p .0) (p .3) (p .5) (c .cut .ensures) in
+    let most = back-most _ _ _ _ (p .0) (p .3) (p .5) (c .with-next .ensures) in
     record { fits = omega (arith, most, c .before .before .fits .offset .fits) }
 
 sub-size-past-row : tie.Need-sub-size-past-row
-sub-size-past-row c = let p = c .before .before .pre in back-most _ _ _ _ (p .0) (p .3) (p .5) (c .cut .ensures)
+sub-size-past-row c = let p = c .before .before .pre in back-most _ _ _ _ (p .0) (p .3) (p .5) (c .with-next .ensures)
 
 size-past-row-requires : tie.Need-size-past-row-requires
 size-past-row-requires c κs =
     let p = c .before .before .pre in
     let a = c .before .before .args in
-    let e = c .cut .ensures in
+    let e = c .with-next .ensures in
     let sizes = pair-sizes _ _ _ _ (p .0) (p .3) (p .5) e (column (a .b .now) (a .w) (a .c)) (p .6) in
     (pair-within _ _ _ _ (p .0) (p .3) (p .5) e (a .b .now) (a .w) (a .c) (p .1) (p .2), past-most _ _ _ _ (p .0) (p .3) (p .5) e, p .4, p .3, sizes .0, sizes .1)
 
@@ -42,9 +40,8 @@ pub size-at-spec : {M : Type 1} → statement M
 size-at-spec =
     tie.close
     (tie.spec
-    div-cut
-    sub-cut
-    cut-requires
+    div-with-next
+    with-next-requires
     mul-size-past-row
     sub-size-past-row
     size-past-row-requires
