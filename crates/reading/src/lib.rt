@@ -33,13 +33,6 @@ fn size_past_row(b: &[u8], w: usize, c: usize, i: usize, t: u64, step: u64) -> u
     figures::nearest_size(u * (step - t) + next * t, step)
 }
 
-// k, cut to the last row.
-pub fn cut(k: u64, last: usize) -> usize
-    ensures { λ r. ⌜ r ≡ min k last ⌝ }
-{
-    if k < (last as u64) { k as usize } else { last }
-}
-
 // 1 where k is beyond the last, and else 0.
 fn beyond(k: u64, last: u64) -> u64
     ensures { λ r. ⌜ (last < k → r ≡ 1) × (k ≤ last → r ≡ 0) ⌝ }

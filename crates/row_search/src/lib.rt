@@ -1,7 +1,7 @@
 // The row of a reduced northing, by halving.
 ghost use mathlib.Core.Path.{_≡_};
 ghost use mathlib.Core.Bool.{true};
-ghost use Prim.Native.Nat.{_+_, _*_, _^_, _<_, _≤_};
+ghost use Prim.Native.Nat.{_+_, _*_, _^_, _<_, _≤_, min};
 ghost use lib.ListN.{length};
 ghost use lib.IntN.{pos, natAbs, _+ℤ_};
 ghost use lib.Signed.{leZ, ltZ};
@@ -51,6 +51,13 @@ fn height(b: &[u8], c: usize, z: i64) -> u64
     (z + figures::RAISED as i64 - words::raised_word(b, c) as i64) as u64
 }
 
+// k, cut to the last row.
+fn cut(k: u64, last: usize) -> usize
+    ensures { λ r. ⌜ r ≡ min k last ⌝ }
+{
+    if k < (last as u64) { k as usize } else { last }
+}
+
 // The same row where each row is higher than the one before it by least to most: a number d above row 0 can stand no lower than row d / most, and no
 // higher than row d / least, and the search goes through these rows alone.
 pub fn row_of(b: &[u8], w: usize, c: usize, n: usize, least: u64, most: u64, z: i64) -> usize
@@ -58,7 +65,7 @@ pub fn row_of(b: &[u8], w: usize, c: usize, n: usize, least: u64, most: u64, z: 
     ensures { λ r. ⌜ (r ≡ lastNotAbove (column (now (b .entry)) w c) n z) × (r < n) ⌝ }
 {
     let d = height(b, c, z);
-    let low = reading::cut(d / most, n - 1);
-    let high = reading::cut(d / least, n - 1) + 1;
+    let low = cut(d / most, n - 1);
+    let high = cut(d / least, n - 1) + 1;
     last_not_above(b, w, c, n, low, high, z)
 }

@@ -1,4 +1,4 @@
--- `reading::height` meets its contract. Assumes nothing.
+-- `row_search::height` meets its contract. Assumes nothing.
 use borrow.Author.Needs.{needs}
 use native.Mathlib.Omega.{arith}
 use mathlib.Core.Path.{_≡_, _∙_}

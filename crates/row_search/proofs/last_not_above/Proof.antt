@@ -1,4 +1,4 @@
--- `reading::last_not_above` meets its contract. The loop keeps row `from` not above z, and row `to` above it or past the last row; `to - from` falls.
+-- `row_search::last_not_above` meets its contract. The loop keeps row `from` not above z, and row `to` above it or past the last row; `to - from` falls.
 -- Assumes nothing.
 use native.Mathlib.Omega.{arith}
 use mathlib.Core.Path.{_≡_, sym, _∙_}

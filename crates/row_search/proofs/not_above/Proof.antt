@@ -1,4 +1,4 @@
--- `reading::not_above` meets its contract. Assumes nothing.
+-- `row_search::not_above` meets its contract. Assumes nothing.
 use borrow.Author.Needs.{needs}
 use native.Mathlib.Omega.{arith}
 use mathlib.Core.Path.{_≡_, ap, _∙_}

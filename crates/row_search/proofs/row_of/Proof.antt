@@ -1,4 +1,4 @@
--- `reading::row_of` meets its contract. Assumes nothing.
+-- `row_search::row_of` meets its contract. Assumes nothing.
 use borrow.Author.Needs.{needs}
 use native.Mathlib.Omega.{arith}
 use mathlib.Core.Path.{_≡_, ap}

@@ -1,4 +1,4 @@
--- `figures::approximate_l` meets its contract. Assumes nothing.
+-- `steps::approximate_l` meets its contract. Assumes nothing.
 use borrow.Author.Needs.{needs}
 use Rattle.steps.specs.Steps.{approximateL}
 use Rattle.steps.proofs.approximate_l.Statement.{statement}

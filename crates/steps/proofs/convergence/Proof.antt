@@ -1,4 +1,4 @@
--- `figures::convergence` meets its contract. Assumes nothing.
+-- `steps::convergence` meets its contract. Assumes nothing.
 use borrow.Author.Needs.{needs}
 use lib.Dec.{lit<, lit≤}
 use lib.IntN.{pos}

@@ -1,4 +1,4 @@
--- `figures::per_second` meets its contract. Assumes nothing.
+-- `steps::per_second` meets its contract. Assumes nothing.
 use borrow.Author.Needs.{needs}
 use lib.Dec.{lit<, lit≤}
 use Prim.Native.Nat.{_+_}

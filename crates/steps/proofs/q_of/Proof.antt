@@ -1,4 +1,4 @@
--- `figures::q_of` meets its contract. Assumes nothing.
+-- `steps::q_of` meets its contract. Assumes nothing.
 use native.Mathlib.Omega.{arith}
 use lib.Dec.{lit<, lit≤}
 use Prim.Native.Nat.{_*_, _≤_}

@@ -1,4 +1,4 @@
--- `figures::reduction` meets its contract: `wide-nearest`, with 10¹⁵ split at LOW, turns the definition into what the code works. Assumes nothing.
+-- `steps::reduction` meets its contract: `wide-nearest`, with 10¹⁵ split at LOW, turns the definition into what the code works. Assumes nothing.
 use borrow.Author.Needs.{needs, sfits-of}
 use native.Mathlib.Omega.{arith}
 use native.Mathlib.Nat.{le-trans}

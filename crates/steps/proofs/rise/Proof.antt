@@ -1,4 +1,4 @@
--- `figures::rise` meets its contract. Assumes nothing.
+-- `steps::rise` meets its contract. Assumes nothing.
 use native.Mathlib.Omega.{arith}
 use lib.Dec.{lit<, lit≤}
 use Prim.Native.Nat.{_*_, _≤_}

@@ -1,4 +1,4 @@
--- `figures::seconds` meets its contract. Assumes nothing.
+-- `steps::seconds` meets its contract. Assumes nothing.
 use native.Mathlib.Omega.{arith}
 use Prim.Native.Nat.{_*_, _≤_}
 use Rattle.steps.specs.Steps.{seconds}

@@ -1,4 +1,4 @@
--- `figures::size_of_l` meets its contract. Assumes nothing.
+-- `steps::size_of_l` meets its contract. Assumes nothing.
 use borrow.Author.Needs.{needs}
 use native.Mathlib.Omega.{arith}
 use Prim.Native.Nat.{ℕ, _+_, _*_}

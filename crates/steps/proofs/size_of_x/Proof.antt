@@ -1,4 +1,4 @@
--- `figures::size_of_x` meets its contract. Assumes nothing.
+-- `steps::size_of_x` meets its contract. Assumes nothing.
 use Prim.Native.Nat.{ℕ, _+_, _*_, _≤_}
 use native.Mathlib.Omega.{arith}
 use lib.Dec.{lit<, lit≤}

@@ -1,4 +1,4 @@
--- `figures::toward_zero` meets its contract. Assumes nothing.
+-- `steps::toward_zero` meets its contract. Assumes nothing.
 use mathlib.Core.Path.{sym, ap, _∙_}
 use Prim.Native.Nat.{ℕ}
 use mir.Syntax.{w64}
