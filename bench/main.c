@@ -119,17 +119,17 @@ static double time_points(over *all, const uint8_t *sheet, size_t length, const 
     return (now() - from) / POINTS;
 }
 
-// Compares the two over the points one by one, then times them over all.
+// Compares the two over the points one by one, then times them over all. A refusal's values are 0, and no answer's second one is.
 static int compare(const char *name, const char *file, over *ours, over *plain, const uint8_t *sheet, size_t length, const int32_t *points) {
-    int differ = 0;
+    int differ = 0, refused = 0;
     for (int k = 0; k < POINTS; k++) {
         greatest a = ours(sheet, length, points + 2 * k, 2), b = plain(sheet, length, points + 2 * k, 2);
-        differ += a.first != b.first || a.second != b.second;
+        differ += a.first != b.first || a.second != b.second, refused += b.second == 0;
     }
     times t;
     for (int k = 0; k < TURNS; k++) t.ours[k] = time_points(ours, sheet, length, points), t.plain[k] = time_points(plain, sheet, length, points);
     say_times(name, file, "point", &t, GOAL);
-    printf("%d of %d points answered differently\n", differ, POINTS);
+    printf("%d of %d points answered differently (%d refused)\n", differ, POINTS, refused);
     return differ;
 }
 
@@ -138,14 +138,15 @@ static int32_t word(const uint8_t *sheet, size_t n) {
     return (int32_t)((uint32_t)b[0] << 24 | (uint32_t)b[1] << 16 | (uint32_t)b[2] << 8 | b[3]);
 }
 
-// Points all over the latitude rows and 1,000″ to either side of the central meridian, and what they come to on the plane.
-static void spread(const uint8_t *sheet, const places *p, int32_t *earth, int32_t *flat) {
-    int32_t central = word(sheet, p->start[1]), first = word(sheet, p->start[2]) * 60000;
+// Points all over the latitude rows and 1,000″ to either side of the central meridian, and what they come to on the plane; and these moved to lie all over the scale rows.
+static void spread(const uint8_t *sheet, const places *p, int32_t *earth, int32_t *flat, int32_t *scaled) {
+    int32_t central = word(sheet, p->start[1]), easting = word(sheet, p->start[1] + 1), first = word(sheet, p->start[2]) * 60000, reach = (p->rows[6] - 1) * 500000;
     for (int k = 0; k < POINTS; k++) {
         earth[2 * k] = first + (int32_t)(next() % ((p->rows[2] - 1) * 60000));
         earth[2 * k + 1] = central + (int32_t)(next() % 2000001) - 1000000;
         plane r = plain_forward(sheet, p, earth[2 * k], earth[2 * k + 1]);
         flat[2 * k] = r.x, flat[2 * k + 1] = r.y;
+        scaled[2 * k] = easting - reach + (int32_t)(next() % (2 * (uint64_t)reach + 1)), scaled[2 * k + 1] = r.y;
     }
 }
 
@@ -286,12 +287,13 @@ static int corrections(const char *file, const uint8_t *sheet, size_t length) {
 }
 
 static int conversions(const char *file, const uint8_t *sheet, size_t length) {
-    static int32_t earth[2 * POINTS], flat[2 * POINTS];
+    static int32_t earth[2 * POINTS], flat[2 * POINTS], scaled[2 * POINTS];
     places p = plain_places(sheet);
-    spread(sheet, &p, earth, flat);
+    spread(sheet, &p, earth, flat, scaled);
     return compare("forward", file, bannerscale_forward, plain_forward_all, sheet, length, earth)
          + compare("inverse", file, bannerscale_inverse, plain_inverse_all, sheet, length, flat)
-         + compare("convergence", file, bannerscale_convergence, plain_convergence_all, sheet, length, flat)
+         + compare("convergence", file, bannerscale_convergence, plain_convergence_all, sheet, length, scaled)
+         + compare("convergence, inverse's points", file, bannerscale_convergence, plain_convergence_all, sheet, length, flat)
          + batches(file, sheet, length, earth);
 }
 
