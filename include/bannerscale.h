@@ -1,10 +1,10 @@
 /* Bannerscale: zone sheets of the 1927 state plane system, checked, and survey points converted with them by the Coast and Geodetic Survey's printed steps.
  *
  * Every function takes any bytes as a sheet and any numbers as a point, gives a definite answer and is proved to give the one that the definitions state; a refusal
- * has its number, the first fault's, and writes nothing. The functions keep no state, call nothing, allocate nothing and may run in any thread at once.
+ * has its number, the first fault's, and writes nothing. The functions keep no state, call nothing of the system, allocate nothing and may run in any thread at once.
  *
  * Memory. A sheet, points and answers are lent for the call: a pointer and how many elements it reaches. The pointer has to reach that many, the elements have to be
- * initialised and aligned as their type asks, and what a function writes must not overlap what it reads, nor be used by another thread during the call. A null pointer
+ * initialised and aligned as their type asks. Memory that a function writes must overlap no other that is lent to the same call, nor be used by another thread meanwhile. A null pointer
  * with length 0 is an empty slice; a null pointer with another length is not allowed.
  *
  * Units. Points are signed 32-bit counts: latitude and west longitude in thousandths of a second, x and y in hundredths of a foot. West longitude is positive. */
@@ -46,14 +46,14 @@ enum {
     BANNERSCALE_FIGURE = 6,            /* a figure outside its range; in a correction a new figure */
     BANNERSCALE_MINUTE = 7,            /* the next minute is not one more */
     BANNERSCALE_BOUND = 8,             /* a row difference outside its bounds; in a correction with either neighbour */
-    BANNERSCALE_DIFFERENCE = 9,        /* a printed difference is not what the rows give */
+    BANNERSCALE_DIFFERENCE = 9,        /* a printed difference is not what the rows give, or not 0 in the last row */
     BANNERSCALE_LATITUDE = 10,         /* latitude below the first or above the last row */
     BANNERSCALE_LONGITUDE = 11,        /* longitude outside 0 to 648,000,000, or too far from the central meridian for the sheet */
     BANNERSCALE_EASTING = 12,          /* x too far from the central meridian for the sheet */
     BANNERSCALE_NORTHING = 13,         /* y below 0 or above the last row of kind 4 */
     BANNERSCALE_REDUCED_NORTHING = 14, /* reduced northing below the first or above the last y0 */
     BANNERSCALE_NOT_A_COUNT = 15,      /* a double that is not a whole number within -2,147,483,647 to 2,147,483,647 */
-    BANNERSCALE_NO_ROW = 16,           /* no latitude row has the minute */
+    BANNERSCALE_NO_ROW = 16,           /* no latitude row has the minute in the place that the first row's minute gives it */
     BANNERSCALE_ROOM = 17              /* an odd batch, over 4,096 points, or too little room for its answers */
 };
 
@@ -105,8 +105,8 @@ bannerscale_grid_answer bannerscale_convergence_and_scale(const uint8_t *sheet, 
 /* ---- corrections of one latitude row */
 
 /* Gives the row of the minute (of latitude: 60 times the degrees, and the minutes) new y0 in 0.01 ft, H and V in 0.000001 and a in 0.001. Answers 0, and the sheet has the new
- * figures and the differences that they move, or 1 to 5, then 16, 6, 8, and the sheet stays as it was. It does not look at the whole sheet: on one that passes the check, a
- * correction is accepted exactly when the corrected sheet passes it. */
+ * figures and the differences that they move, or 1 to 5, then 16, 6, 8, and the sheet stays as it was. It does not look at the whole sheet: on one that passes the check and
+ * has a row of the minute, it accepts exactly the figures with which the sheet passes again. */
 uint32_t bannerscale_correct(uint8_t *sheet, size_t sheet_bytes, int32_t minute, int32_t y0, int32_t h, int32_t v, int32_t a);
 
 /* Whether an accepted correction of the minute's row may change a point's answer: false is a promise that it does not. A refusal, with the check's number or 16, has false and
@@ -130,8 +130,8 @@ typedef struct {
     uint32_t count;
 } bannerscale_batch_answer;
 
-/* Geographic to plane for pairs of latitude and longitude: points has 2 words a point, answers gets 3, number, x, y, and may be longer, its tail stays. Both lengths count
- * words. 17 comes before the check's number. */
+/* Geographic to plane for pairs of latitude and longitude: points has 2 words a point, answers gets 3, number, x, y, and may be longer, its tail stays. A
+ * point that is refused has 10 or 11 and zeros there. Both lengths count words. 17 comes before the check's number. */
 bannerscale_batch_answer bannerscale_batch(const uint8_t *sheet, size_t sheet_bytes, const int32_t *points, size_t point_words, int32_t *answers, size_t answer_words);
 
 /* ---- the drawing tools' door: the conversions over counts held in doubles

@@ -3,7 +3,7 @@ ghost use mathlib.Core.Path.{_≡_};
 ghost use Prim.Native.Nat.{_+_, _≤_};
 ghost use Rattle.new_row.specs.NewRow.{fieldAt, lastAt, rowOf, numberBy, sheetBy};
 
-// A number in the line: whether it is there and ends as it has to, its value, and the place behind the blank that follows.
+// A number in the line: whether it is there and ends as it has to, its value, and where the next one would stand. Where there is none, value and place say nothing.
 pub struct Field {
     pub found: bool,
     pub value: i32,
