@@ -49,7 +49,7 @@ fn refusal(number: u32) -> Values
 // ---- what is printed
 
 // A number and the byte after it, from `at` on; the place after both.
-fn put_size_and(out: &mut [u8], at: usize, v: u64, end: u8) -> usize
+pub fn put_size_and(out: &mut [u8], at: usize, v: u64, end: u8) -> usize
     requires { ⌜ at + 22 ≤ length (now out) ⌝ }
     ensures { λ r. ⌜ (r ≤ at + 22) × Wrote (now (out .entry)) (now (out .exit)) at r (ended (sizeText v) end) ⌝ }
 {
@@ -58,7 +58,7 @@ fn put_size_and(out: &mut [u8], at: usize, v: u64, end: u8) -> usize
 }
 
 // A signed number and the byte after it, from `at` on; the place after both.
-fn put_number_and(out: &mut [u8], at: usize, v: i32, end: u8) -> usize
+pub fn put_number_and(out: &mut [u8], at: usize, v: i32, end: u8) -> usize
     requires { ⌜ at + 22 ≤ length (now out) ⌝ }
     ensures { λ r. ⌜ (r ≤ at + 22) × Wrote (now (out .entry)) (now (out .exit)) at r (ended (numberText v) end) ⌝ }
 {
@@ -67,7 +67,7 @@ fn put_number_and(out: &mut [u8], at: usize, v: i32, end: u8) -> usize
 }
 
 // A conversion's answer, from `at` on; the place after it.
-fn put_answer(out: &mut [u8], at: usize, number: u32, a: i32, b: i32) -> usize
+pub fn put_answer(out: &mut [u8], at: usize, number: u32, a: i32, b: i32) -> usize
     requires { ⌜ at + lineRoom ≤ length (now out) ⌝ }
     ensures { λ r. ⌜ (r ≤ at + lineRoom) × Wrote (now (out .entry)) (now (out .exit)) at r (answerLine number a b) ⌝ }
 {

@@ -1,0 +1,59 @@
+-- One line of the points program, asked of an old sheet, s, and of a new one, t, after a correction: "which points do I redo?". l is what the line asks, n its number in the input.
+use mathlib.Core.Bool.{Bool, false, not, cond, _&&_, _||_}
+use mathlib.Core.List.{List, [], _∷_, _++_}
+use Prim.Native.Nat.{ℕ}
+use lib.Dec.{eqb}
+use lib.IntN.{ℤ}
+use Rattle.words.specs.Ladder.{whereIs}
+use Rattle.rules.specs.Limits.{sameAs}
+use Rattle.touched.specs.Touched.{geographicTouched, planeTouched}
+use Rattle.decimal.specs.Writing.{sizeText, numberText}
+use Rattle.asked.specs.declared.Line.{Line}
+use Rattle.lines.specs.declared.Values.{Values}
+use Rattle.lines.specs.Lines.{ended, answerLine, valuesOf}
+
+-- ---- whether the answer changes
+-- w's number and values are v's.
+unfoldable pub sameValues : Values → Values → Bool
+sameValues v w = eqb (v .number) (w .number) && sameAs (v .first) (w .first) && sameAs (v .second) (w .second)
+
+-- The line is answered otherwise on the new sheet: another number, or another value.
+unfoldable pub changes : List ℕ → List ℕ → Line → Bool
+changes s t l = not (sameValues (valuesOf s l) (valuesOf t l))
+
+-- ---- whether it might
+-- A correction of the minute's row may change what the sheet answers: G by its latitude, P by its reduced northing. "Convergence and scale never change", nor does 18.
+unfoldable pub touches : List ℕ → Line → ℤ → Bool
+touches s l minute =
+    whereIs (l .form) 71 (geographicTouched s minute (l .first) (l .second) .touched)
+    (whereIs (l .form) 80 (planeTouched s minute (l .first) (l .second) .touched)
+    false)
+
+-- The same, asked of both sheets: "You may ask of the old sheet or of the new one", of one corrected row; where more rows differ one sheet may say yes and the other no.
+abbrev pub eitherTouches : List ℕ → List ℕ → Line → ℤ → Bool
+eitherTouches s t l minute = touches s l minute || touches t l minute
+
+-- Some of the minutes may touch it.
+unfoldable pub reaches : List ℕ → List ℕ → Line → List ℤ → Bool
+reaches s t l [] = false
+reaches s t l (minute ∷ minutes) = eitherTouches s t l minute || reaches s t l minutes
+
+-- ---- what is printed
+-- A number and two values, with a blank after each.
+unfoldable pub valuesText : Values → List ℕ
+valuesText v = ended (sizeText (v .number)) 32 ++ (ended (numberText (v .first)) 32 ++ ended (numberText (v .second)) 32)
+
+-- The line's number, what the old sheet answers and what the new one does, "one blank between", and a line feed.
+unfoldable pub changeLine : ℕ → Values → Values → List ℕ
+changeLine n v w = ended (sizeText n) 32 ++ (valuesText v ++ answerLine (w .number) (w .first) (w .second))
+
+-- Nothing where the answer is the same.
+unfoldable pub changeText : Bool → ℕ → Values → Values → List ℕ
+changeText changed n v w = cond changed (changeLine n v w) []
+
+unfoldable pub comparedText : List ℕ → List ℕ → ℕ → Line → List ℕ
+comparedText s t n l = changeText (changes s t l) n (valuesOf s l) (valuesOf t l)
+
+-- Room for any line that is printed: seven numbers of at most 21 bytes, with a byte after each.
+abbrev pub changeRoom : ℕ
+changeRoom = 154

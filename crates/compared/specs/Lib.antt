@@ -1,0 +1,2 @@
+-- The definitions of one line compared on two sheets.
+pub mod Compared

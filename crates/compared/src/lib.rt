@@ -1,0 +1,139 @@
+// One line of the points program, asked of an old sheet and of a new one.
+use asked::BLANK;
+use asked::FORWARD;
+use asked::INVERSE;
+use asked::Line;
+use entries::Places;
+use lines::Values;
+ghost use mathlib.Core.Path.{_≡_};
+ghost use Prim.Native.Nat.{_+_, _≤_};
+ghost use lib.ListN.{length};
+ghost use Rattle.entries.specs.Entries.{placesOf};
+ghost use Rattle.bodies.specs.Check.{checkOf};
+ghost use Rattle.decimal.specs.Writing.{Wrote};
+ghost use Rattle.asked.specs.Asked.{isForm, lineOf};
+ghost use Rattle.compared.specs.Compared.{sameValues, changes, touches, eitherTouches, reaches, valuesText, changeLine, changeText, comparedText, changeRoom};
+
+// What a line is on two sheets: whether it is of a known form, whether its answer changes, whether some of the minutes may touch it, and the place after what was written.
+pub struct Compared {
+    pub point: bool,
+    pub changed: bool,
+    pub reached: bool,
+    pub next: usize,
+}
+
+// Room for any line that is written: seven numbers of at most 21 bytes, with a byte after each.
+pub const CHANGE_ROOM: usize = 154;
+
+// ---- whether the answer changes
+
+// Whether two answers are the same.
+fn same_values(v: Values, w: Values) -> bool
+    ensures { λ r. ⌜ r ≡ sameValues v w ⌝ }
+{
+    (v.number == w.number) & rules::same_as(v.first, w.first) & rules::same_as(v.second, w.second)
+}
+
+// ---- whether it might
+
+// Whether a correction of the minute's row may change what the sheet answers the line. The sheet is known to pass, with its places.
+fn is_touched(s: &[u8], p: Places, l: Line, minute: i32) -> bool
+    requires { ⌜ (checkOf (now s) .number ≡ 0) × (p ≡ placesOf (now s)) ⌝ }
+    ensures { λ r. ⌜ r ≡ touches (now (s .entry)) l minute ⌝ }
+{
+    let form = l.form;
+    if form == FORWARD {
+        return touched::forward_touched(s, p, minute, l.first, l.second).touched;
+    }
+    if form == INVERSE {
+        return touched::inverse_touched(s, p, minute, l.first, l.second).touched;
+    }
+    false
+}
+
+// The same, asked of both sheets.
+fn is_touched_in_either(old: &[u8], p: Places, new: &[u8], q: Places, l: Line, minute: i32) -> bool
+    requires { ⌜ (checkOf (now old) .number ≡ 0) × (p ≡ placesOf (now old)) × (checkOf (now new) .number ≡ 0) × (q ≡ placesOf (now new)) ⌝ }
+    ensures { λ r. ⌜ r ≡ eitherTouches (now (old .entry)) (now (new .entry)) l minute ⌝ }
+{
+    is_touched(old, p, l, minute) | is_touched(new, q, l, minute)
+}
+
+// Whether some of the minutes may touch the line.
+fn is_reached(old: &[u8], p: Places, new: &[u8], q: Places, l: Line, minutes: &[i32]) -> bool
+    requires { ⌜ (checkOf (now old) .number ≡ 0) × (p ≡ placesOf (now old)) × (checkOf (now new) .number ≡ 0) × (q ≡ placesOf (now new)) ⌝ }
+    ensures { λ r. ⌜ r ≡ reaches (now (old .entry)) (now (new .entry)) l (now (minutes .entry)) ⌝ }
+{
+    let mut i = 0;
+    while i < minutes.len() {
+        if is_touched_in_either(old, p, new, q, l, minutes[i]) {
+            return true;
+        }
+        i += 1;
+    }
+    false
+}
+
+// ---- what is written
+
+// An answer's number and two values, with a blank after each, from `at` on; the place after them.
+fn put_values(out: &mut [u8], at: usize, v: Values) -> usize
+    requires { ⌜ at + 66 ≤ length (now out) ⌝ }
+    ensures { λ r. ⌜ (r ≤ at + 66) × Wrote (now (out .entry)) (now (out .exit)) at r (valuesText v) ⌝ }
+{
+    let i = lines::put_size_and(out, at, v.number as u64, BLANK);
+    let j = lines::put_number_and(out, i, v.first, BLANK);
+    lines::put_number_and(out, j, v.second, BLANK)
+}
+
+// Line n's old answer v and its new one, w, from `at` on; the place after them.
+fn put_change(out: &mut [u8], at: usize, n: u64, v: Values, w: Values) -> usize
+    requires { ⌜ at + changeRoom ≤ length (now out) ⌝ }
+    ensures { λ r. ⌜ (r ≤ at + changeRoom) × Wrote (now (out .entry)) (now (out .exit)) at r (changeLine n v w) ⌝ }
+{
+    let i = lines::put_size_and(out, at, n, BLANK);
+    let j = put_values(out, i, v);
+    lines::put_answer(out, j, w.number, w.first, w.second)
+}
+
+// The same where the answer changed, else nothing.
+fn put_where(changed: bool, out: &mut [u8], at: usize, n: u64, v: Values, w: Values) -> usize
+    requires { ⌜ at + changeRoom ≤ length (now out) ⌝ }
+    ensures { λ r. ⌜ (r ≤ at + changeRoom) × Wrote (now (out .entry)) (now (out .exit)) at r (changeText changed n v w) ⌝ }
+{
+    if !changed {
+        return at;
+    }
+    put_change(out, at, n, v, w)
+}
+
+// Line n, asked of both sheets, which are known to pass, with their places: what it is on them, and where its answer changes both answers from `at` on.
+pub fn compare_line(
+    old: &[u8],
+    p: Places,
+    new: &[u8],
+    q: Places,
+    minutes: &[i32],
+    line: &[u8],
+    n: u64,
+    out: &mut [u8],
+    at: usize,
+) -> Compared
+    requires { ⌜ (checkOf (now old) .number ≡ 0) × (p ≡ placesOf (now old)) × (checkOf (now new) .number ≡ 0) × (q ≡ placesOf (now new)) × (at + changeRoom ≤ length (now out)) ⌝ }
+    ensures point { λ r. ⌜ r .point ≡ isForm (lineOf (now (line .entry)) .form) ⌝ }
+    ensures changed { λ r. ⌜ r .changed ≡ changes (now (old .entry)) (now (new .entry)) (lineOf (now (line .entry))) ⌝ }
+    ensures reached { λ r. ⌜ r .reached ≡ reaches (now (old .entry)) (now (new .entry)) (lineOf (now (line .entry))) (now (minutes .entry)) ⌝ }
+    ensures text { λ r. ⌜ (r .next ≤ at + changeRoom) × Wrote (now (out .entry)) (now (out .exit)) at (r .next) (comparedText (now (old .entry)) (now (new .entry)) n (lineOf (now (line .entry)))) ⌝ }
+{
+    let l = asked::line_of(line);
+    let v = lines::values_of(old, p, l);
+    let w = lines::values_of(new, q, l);
+    let changed = !same_values(v, w);
+    let next = put_where(changed, out, at, n, v, w);
+    Compared {
+        point: asked::is_form(l.form),
+        changed,
+        reached: is_reached(old, p, new, q, l, minutes),
+        next,
+    }
+}
