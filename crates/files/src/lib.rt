@@ -80,6 +80,14 @@ pub fn read_more(input: &mut [u8], from: usize) -> usize
     read_part(STDIN_FILENO, input, from).count
 }
 
+// Reads more behind the first n bytes; how many the buffer then holds, n at the input's end.
+pub fn read_on(input: &mut [u8], n: usize) -> usize
+    requires { ⌜ n ≤ length (now input) ⌝ }
+    ensures { λ r. ⌜ (n ≤ r) × (r ≤ length (now (input .exit))) ⌝ }
+{
+    n + read_more(input, n)
+}
+
 // The place of the line feed that ends the line from `from` on, `to` where none stands before it.
 pub fn line_end(input: &[u8], from: usize, to: usize) -> usize
     requires { ⌜ (from ≤ to) × (to ≤ length (now input)) ⌝ }
@@ -136,4 +144,17 @@ pub fn read_lines(input: &mut [u8], k: usize) -> usize
         n = end;
     }
     n
+}
+
+// Moves the bytes from `from` up to `to` to the buffer's front.
+pub fn keep(input: &mut [u8], from: usize, to: usize)
+    requires { ⌜ (from ≤ to) × (to ≤ length (now input)) ⌝ }
+{
+    let mut i = 0;
+    let n = to - from;
+    while i < n {
+        let b = input[from + i];
+        input[i] = b;
+        i += 1;
+    }
 }

@@ -59,19 +59,6 @@ fn answer_all(sheet: &[u8], p: Places, input: &[u8], from: usize, out: &mut [u8]
     Rest { from: i, at: o }
 }
 
-// Moves the bytes from `from` up to `to` to the buffer's front.
-fn keep(input: &mut [u8], from: usize, to: usize)
-    requires { ⌜ (from ≤ to) × (to ≤ length (now input)) ⌝ }
-{
-    let mut i = 0;
-    let n = to - from;
-    while i < n {
-        let b = input[from + i];
-        input[i] = b;
-        i += 1;
-    }
-}
-
 // Answers the lines of the buffer's first `to` bytes from `from` on, and keeps what stands behind the last line feed.
 fn answer_block(
     sheet: &[u8],
@@ -95,7 +82,7 @@ fn answer_block(
             at: place,
         };
     }
-    keep(input, start, to);
+    files::keep(input, start, to);
     State {
         kept: to - start,
         long: false,

@@ -1,10 +1,10 @@
--- `points::keep` meets its contract. Assumes nothing.
+-- `files::keep` meets its contract. Assumes nothing.
 use borrow.Author.Needs.{needs}
 use mathlib.Core.Path.{_≡_}
 use Prim.Native.Nat.{_-_, _≤_}
 use lib.ListN.{length}
-use Rattle.points.proofs.keep.Statement.{statement}
-use Rattle.points.proofs.keep.Tie as tie
+use Rattle.files.proofs.keep.Statement.{statement}
+use Rattle.files.proofs.keep.Tie as tie
 
 abbrev Inv-loop : tie.InvT-loop
 Inv-loop input₀ from to i₀ n input i = (i ≤ n) × (length input ≡ length input₀)
