@@ -8,4 +8,5 @@ pub mod WholeCheck
 pub mod Beside
 pub mod Stands
 pub mod SameAnswers
+pub mod AllSame
 pub mod Minutes

@@ -83,7 +83,7 @@ module _ (s t : List ℕ) (r : ℕ) (same : Beside s t r) where
     unfolding longitudeOf
     longitude-of-same xp = rw (size-of-same (natAbs xp), central-same s t r same)
 
-    from-distance-same : (xp : ℤ) → fromDistance t xp d ≡ fromDistance s xp d
+    pub from-distance-same : (xp : ℤ) → fromDistance t xp d ≡ fromDistance s xp d
     unfolding fromDistance geographicAt
     from-distance-same xp =
         rw (

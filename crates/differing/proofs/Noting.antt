@@ -1,6 +1,6 @@
 -- Which rows differ, and their minutes noted one after another. Assumes nothing.
 use mathlib.Core.Path.{_≡_, refl, sym, _∙_}
-use mathlib.Core.Bool.{Bool, true, false, not, cond}
+use mathlib.Core.Bool.{Bool, true, false, not, cond, _&&_}
 use mathlib.Core.List.{List, [], _∷_, _++_}
 use Prim.Native.Nat.{ℕ, suc, _+_, _*_, _<_, _≤_}
 use native.Mathlib.Nat.{le-trans}
@@ -20,6 +20,8 @@ use Rattle.bodies.specs.Check.{checkOf}
 use Rattle.tables.proofs.Parts.{cut}
 use Rattle.extent.proofs.Counts.{count-small}
 use Rattle.rules.specs.declared.Figures.{Figures}
+use Rattle.rules.specs.Limits.{sameAs}
+use Rattle.rules.proofs.Ranges.{same-true}
 use Rattle.rows.specs.Rows.{figuresAt}
 use Rattle.judge.specs.Judge.{namedRow, hasRow}
 use Rattle.decimal.proofs.Spelling.{sets-after}
@@ -93,3 +95,18 @@ module _ (s : List ℕ) (p : Place) (width : ℕ) (e : p ≡ placeOf s latitude)
   pub of-sheets : (t : List ℕ) {x y : List ℤ} {k : ℕ} → Noted x y 0 k (differing lent (bodyOf t latitude) (rowsOf t latitude) (p .rows)) → Noted x y 0 k (differingRows s t)
   unfolding differingRows
   of-sheets t {x} {y} {k} d = let f : p .rows ≡ rowsOf s latitude = rw e in rw (lent-is, f) at d
+
+-- ---- the test of two rows' figures is that they are equal
+both : (a b : Bool) → a && b ≡ true → (a ≡ true) × (b ≡ true)
+both true true h = (refl, refl)
+both true false h = (refl, h)
+both false true h = (h, refl)
+both false false h = (h, h)
+
+pub same-figures : (f g : Figures) → sameFigures f g ≡ true → f ≡ g
+unfolding sameFigures
+same-figures f g h =
+    let a = both (sameAs (f .y0) (g .y0) && sameAs (f .h) (g .h) && sameAs (f .v) (g .v)) (sameAs (f .a) (g .a)) h in
+    let v = both (sameAs (f .y0) (g .y0) && sameAs (f .h) (g .h)) (sameAs (f .v) (g .v)) (a .0) in
+    let y = both (sameAs (f .y0) (g .y0)) (sameAs (f .h) (g .h)) (v .0) in
+    rw (same-true (f .y0) (g .y0) (y .0), same-true (f .h) (g .h) (y .1), same-true (f .v) (g .v) (v .1), same-true (f .a) (g .a) (a .1))

@@ -98,7 +98,7 @@ module _ (s : List ℕ) (passes : Passes s) (minute : ℤ) (f : Figures) where
   abbrev r : ℕ
   r = rowNamed s minute
 
-  ok : checkOf s .number ≡ 0
+  pub ok : checkOf s .number ≡ 0
   ok = ap numberOf passes
 
   z : contentsOf s .number ≡ 0
@@ -108,10 +108,10 @@ module _ (s : List ℕ) (passes : Passes s) (minute : ℤ) (f : Figures) where
   keeps : correctionOf s minute f ≡ 0 → Kept b n minute f
   keeps e = zero-keeps b n minute f (sym (number-is s minute f z) ∙ e)
 
-  there : hasMinute s minute ≡ true → r < n
+  pub there : hasMinute s minute ≡ true → r < n
   there has = row-there b n minute has (latitude-some s ok)
 
-  writes : correctionOf s minute f ≡ 0 → correctedOf s minute f ≡ putIn s minute f
+  pub writes : correctionOf s minute f ≡ 0 → correctedOf s minute f ≡ putIn s minute f
   unfolding correctedOf
   writes e = sym (is (correctionOf s minute f) 0 (putIn s minute f) s (putIn s minute f) e refl)
 
@@ -126,7 +126,7 @@ module _ (s : List ℕ) (passes : Passes s) (minute : ℤ) (f : Figures) where
       pick (yes e) = ap (λ (u : List ℕ). getD u q 0) (writes e) ∙ other-bytes s z r f q far
       pick (no h) = ap (λ (u : List ℕ). getD u q 0) (stays h)
 
-  only-then : correctionOf s minute f ≡ 0 → Passes (putIn s minute f)
+  pub only-then : correctionOf s minute f ≡ 0 → Passes (putIn s minute f)
   only-then e = let k = keeps e in passes-with s ok r f (there (k .row)) (k .range) (k .before) (k .after)
 
   no-row : hasMinute s minute ≡ false → correctionOf s minute f ≡ 16
@@ -152,20 +152,20 @@ module _ (s : List ℕ) (passes : Passes s) (minute : ℤ) (f : Figures) where
     abbrev t : List ℕ
     t = putIn s minute f
 
-    ok′ : checkOf t .number ≡ 0
+    pub ok′ : checkOf t .number ≡ 0
     ok′ = ap numberOf (only-then accepted)
 
-    has : hasMinute s minute ≡ true
+    pub has : hasMinute s minute ≡ true
     has = keeps accepted .row
 
-    old : (i : ℕ) → (i ≡ r → ⊥) → figuresAt (bodyOf t latitude) i ≡ figuresAt b i
+    pub old : (i : ℕ) → (i ≡ r → ⊥) → figuresAt (bodyOf t latitude) i ≡ figuresAt b i
     old i h = rw (latitude-body s z r f) (figures-stay b n r f i h)
 
-    new : figuresAt (bodyOf t latitude) r ≡ f
+    pub new : figuresAt (bodyOf t latitude) r ≡ f
     new = rw (latitude-body s z r f) (figures-new b n r f (omega (arith, body-long s z r f)) (there has) (figures-fit f (keeps accepted .range)))
 
     -- t is s but for row r's figures
-    beside : Beside s t r
+    pub beside : Beside s t r
     unfolding figuresAt
     beside =
         record {
@@ -179,10 +179,10 @@ module _ (s : List ℕ) (passes : Passes s) (minute : ℤ) (f : Figures) where
         }
 
     -- a conversion on a sheet that passes is what comes after the check
-    plane-steps : (u : List ℕ) → checkOf u .number ≡ 0 → (north west : ℤ) → geographicToPlane u north west ≡ forwardOf u north west
+    pub plane-steps : (u : List ℕ) → checkOf u .number ≡ 0 → (north west : ℤ) → geographicToPlane u north west ≡ forwardOf u north west
     plane-steps u q north west = sym (forward-passes u north west (forwardOf u north west) q refl)
 
-    earth-steps : (u : List ℕ) → checkOf u .number ≡ 0 → (x y : ℤ) → planeToGeographic u x y ≡ inverseOf u x y
+    pub earth-steps : (u : List ℕ) → checkOf u .number ≡ 0 → (x y : ℤ) → planeToGeographic u x y ≡ inverseOf u x y
     earth-steps u q x y = sym (inverse-passes u x y (inverseOf u x y) q refl)
 
     grid-steps : (u : List ℕ) → checkOf u .number ≡ 0 → (x y : ℤ) → convergenceAndScale u x y ≡ gridOf u x y
@@ -242,13 +242,13 @@ module _ (s : List ℕ) (passes : Passes s) (minute : ℤ) (f : Figures) where
 
     -- ---- what `touched` says
     module _ (u : List ℕ) (q : checkOf u .number ≡ 0) (h : hasMinute u minute ≡ true) where
-      geographic-says : (north west : ℤ) → geographicTouched u minute north west ≡ touch 0 (forwardTouched u minute north west)
+      pub geographic-says : (north west : ℤ) → geographicTouched u minute north west ≡ touch 0 (forwardTouched u minute north west)
       unfolding geographicTouched
       geographic-says north west =
           after-pass (λ a. a .number) noTouch (λ m. refl) u (need (hasMinute u minute) (noTouch 16) (touch 0 (forwardTouched u minute north west))) q
           ∙ past (noTouch 16) (touch 0 (forwardTouched u minute north west)) h
 
-      plane-says : (x y : ℤ) → planeTouched u minute x y ≡ touch 0 (inverseTouched u (rowNamed u minute) x y)
+      pub plane-says : (x y : ℤ) → planeTouched u minute x y ≡ touch 0 (inverseTouched u (rowNamed u minute) x y)
       unfolding planeTouched
       plane-says x y =
           after-pass (λ a. a .number) noTouch (λ m. refl) u (need (hasMinute u minute) (noTouch 16) (touch 0 (inverseTouched u (rowNamed u minute) x y))) q
@@ -311,7 +311,7 @@ module _ (s : List ℕ) (passes : Passes s) (minute : ℤ) (f : Figures) where
     has-new =
         rw (latitude-body s z r f, latitude-rows s t r beside, minutes-stay b n r f 0, minutes-stay b n r f (natAbs (minute -ℤ wordAt b (8 * 0)))) has
 
-    row-new : rowNamed t minute ≡ r
+    pub row-new : rowNamed t minute ≡ r
     unfolding fromFirstMinute
     row-new = rw (latitude-body s z r f, minutes-stay b n r f 0)
 

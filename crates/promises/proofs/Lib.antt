@@ -5,3 +5,4 @@ pub mod AnswersFit
 pub mod SizesAndSigns
 pub mod Corrections
 pub mod OneAnswerForC
+pub mod Redo

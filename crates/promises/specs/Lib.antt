@@ -2,3 +2,4 @@
 pub mod Meaning
 pub mod Conversions
 pub mod Corrections
+pub mod Redo
