@@ -22,14 +22,14 @@ unfoldable pub changes : List ℕ → List ℕ → Line → Bool
 changes s t l = not (sameValues (valuesOf s l) (valuesOf t l))
 
 -- ---- whether it might
--- A correction of the minute's row may change what the sheet answers: G by its latitude, P by its reduced northing. "Convergence and scale never change", nor does 18.
+-- A correction of the minute's row may change what the sheet answers: G by its latitude, P by its reduced northing. No latitude row moves convergence and scale, nor 18.
 unfoldable pub touches : List ℕ → Line → ℤ → Bool
 touches s l minute =
     whereIs (l .form) 71 (geographicTouched s minute (l .first) (l .second) .touched)
     (whereIs (l .form) 80 (planeTouched s minute (l .first) (l .second) .touched)
     false)
 
--- The same, asked of both sheets: "You may ask of the old sheet or of the new one", of one corrected row; where more rows differ one sheet may say yes and the other no.
+-- The same, asked of both sheets. Of one corrected row both say the same; where more rows differ one sheet may say yes and the other no.
 abbrev pub eitherTouches : List ℕ → List ℕ → Line → ℤ → Bool
 eitherTouches s t l minute = touches s l minute || touches t l minute
 

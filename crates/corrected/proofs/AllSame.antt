@@ -9,7 +9,7 @@ use lib.IntN.{ℤ, natAbs}
 use lib.Signed.{leZ}
 use Rattle.entries.specs.Layout.{latitude}
 use Rattle.entries.specs.Entries.{rowsOf}
-use Rattle.reading.proofs.Local.{same-row}
+use Rattle.row_search.proofs.SameRow.{same-row}
 use Rattle.tables.specs.Figures.{y0Of}
 use Rattle.extent.specs.Extent.{fromFirst, xPrime, eastingKnown, northingKnown, reducedKnown}
 use Rattle.forward.specs.Forward.{forwardOf}
