@@ -42,6 +42,8 @@ use Rattle.door.proofs.feet.Kinds as feet-kinds
 use Rattle.door.proofs.feet.Reads as feet-reads
 use Rattle.lines.proofs.answer_line.Kinds as line-kinds
 use Rattle.lines.proofs.answer_line.Reads as line-reads
+use Rattle.redone.proofs.redo_line.Kinds as redone-kinds
+use Rattle.redone.proofs.redo_line.Reads as redone-reads
 use Rattle.asked.proofs.line_of.Kinds as asked-kinds
 use Rattle.asked.proofs.line_of.Reads as asked-reads
 use Rattle.decimal.proofs.byte_at.Kinds as byte-kinds
@@ -130,6 +132,11 @@ one-feet κs given r t x y p q = p ∙ sym q
 pub one-line : (κs : Lfts 3) (given : Dens κs line-kinds.ps) (r t : resT line-kinds.r κs .Denot) (x y : AtExit (endedOf 3 line-kinds.ps line-kinds.r) κs)
     → line-reads.Learnt κs given r x → line-reads.Learnt κs given t y → (r ≡ t) × (now (x .1 .1 .0) ≡ now (y .1 .1 .0))
 one-line κs given r t x y p q = (p .0 ∙ sym (q .0), p .1 ∙ sym (q .1))
+
+-- `redone::redo_line`: one answer, and one content of the output's memory
+pub one-redone : (κs : Lfts 4) (given : Dens κs redone-kinds.ps) (r t : resT redone-kinds.r κs .Denot) (x y : AtExit (endedOf 4 redone-kinds.ps redone-kinds.r) κs)
+    → redone-reads.Learnt κs given r x → redone-reads.Learnt κs given t y → (r ≡ t) × (now (x .1 .1 .1 .1 .0) ≡ now (y .1 .1 .1 .1 .0))
+one-redone κs given r t x y p q = (p .0 ∙ sym (q .0), p .1 ∙ sym (q .1))
 
 -- `asked::line_of`
 pub one-asked : (κs : Lfts 1) (given : Dens κs asked-kinds.ps) (r t : resT asked-kinds.r κs .Denot) (x y : AtExit (endedOf 1 asked-kinds.ps asked-kinds.r) κs)

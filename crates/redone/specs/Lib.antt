@@ -1,0 +1,2 @@
+-- The definitions of one line asked of any two sheets.
+pub mod Redone
