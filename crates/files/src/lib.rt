@@ -1,6 +1,6 @@
 // What a program reads: the bytes of a file whose name a line of its input gives, and its standard input, into lent memory. No contract can say what is read: each says how far it reaches.
 use libc::STDIN_FILENO;
-ghost use Prim.Native.Nat.{_+_, _≤_};
+ghost use Prim.Native.Nat.{_+_, _<_, _≤_};
 ghost use lib.ListN.{length};
 
 // The most bytes of a file's name. A line of a known form has less.
@@ -107,43 +107,84 @@ pub fn behind(end: usize, n: usize) -> usize
     n
 }
 
-// How many of k line feeds are still to come after the bytes from `from` up to `to`.
-fn feeds_left(input: &[u8], from: usize, to: usize, k: usize) -> usize
-    requires { ⌜ (from ≤ to) × (to ≤ length (now input)) ⌝ }
-    ensures { λ r. ⌜ r ≤ k ⌝ }
-{
-    let mut i = from;
-    let mut left = k;
-    while 0 < left {
-        let end = line_end(input, i, to);
-        if end == to {
-            return left;
-        }
-        i = end + 1;
-        left -= 1;
-    }
-    0
+// What is held of the input's first lines: how many bytes, how many lines are still to end, and the length of the one that has not.
+struct Held {
+    bytes: usize,
+    left: usize,
+    length: usize,
 }
 
-// Reads until the first k lines have ended, the buffer is full or the input ends; how many bytes it then holds.
+fn less_one(n: usize) -> usize {
+    if n == 0 {
+        return 0;
+    }
+    n - 1
+}
+
+// One byte more behind those that are held. Of a first line that passes MOST_NAME bytes only so much is kept as shows that it does, so that the first lines never fill the memory.
+fn hold(input: &mut [u8], h: Held, b: u8) -> Held
+    requires { ⌜ (h .bytes < length (now input)) × (h .length ≤ h .bytes) ⌝ }
+    ensures { λ r. ⌜ (r .bytes ≤ h .bytes + 1) × (r .length ≤ r .bytes) ⌝ }
+{
+    let n = h.bytes;
+    if b == LINE_FEED {
+        input[n] = b;
+        return Held {
+            bytes: n + 1,
+            left: less_one(h.left),
+            length: 0,
+        };
+    }
+    if (0 < h.left) & (MOST_NAME < h.length) {
+        return h;
+    }
+    input[n] = b;
+    Held {
+        bytes: n + 1,
+        left: h.left,
+        length: h.length + 1,
+    }
+}
+
+// The bytes that a read put behind those that are held, up to `to`, one after another.
+fn hold_all(input: &mut [u8], h: Held, to: usize) -> Held
+    requires { ⌜ (h .bytes ≤ to) × (to ≤ length (now input)) × (h .length ≤ h .bytes) ⌝ }
+    ensures { λ r. ⌜ (r .bytes ≤ to) × (r .length ≤ r .bytes) ⌝ }
+{
+    let mut s = h;
+    let mut i = h.bytes;
+    while i < to {
+        let b = input[i];
+        s = hold(input, s, b);
+        i += 1;
+    }
+    s
+}
+
+// Reads until the first k lines have ended, the buffer is full or the input ends; how many bytes it then holds. A line of them that passes MOST_NAME bytes is held as one of MOST_NAME + 1.
+// A proved loop has to end, so it counts its turns down from a number that no run uses up.
 pub fn read_lines(input: &mut [u8], k: usize) -> usize
     ensures { λ r. ⌜ r ≤ length (now (input .exit)) ⌝ }
 {
-    let mut n = 0;
-    let mut left = k;
-    while n < input.len() {
-        let got = read_more(input, n);
-        if got == 0 {
+    let mut h = Held {
+        bytes: 0,
+        left: k,
+        length: 0,
+    };
+    let mut turns = u64::MAX;
+    while 0 < turns {
+        let n = h.bytes;
+        let end = read_on(input, n);
+        if end == n {
             return n;
         }
-        let end = n + got;
-        left = feeds_left(input, n, end, left);
-        if left == 0 {
-            return end;
+        h = hold_all(input, h, end);
+        if h.left == 0 {
+            return h.bytes;
         }
-        n = end;
+        turns -= 1;
     }
-    n
+    h.bytes
 }
 
 // Moves the bytes from `from` up to `to` to the buffer's front.

@@ -19,7 +19,7 @@ redone number point changed reached length = record { number = number; point = p
 abbrev pub noRedone : ℕ → Redone
 noRedone number = redone number false false false 0
 
--- The text of a line whose answer changes, by the rows in which the two sheets differ.
+-- The text of a line whose answer changes; nothing for any other.
 abbrev pub redoText : List ℕ → List ℕ → List ℕ → ℕ → List ℕ
 redoText s t line n = comparedText s t n (lineOf line)
 

@@ -1,22 +1,22 @@
 -- `files::read_lines` meets its contract. Assumes nothing.
 use borrow.Author.Needs.{needs}
 use mathlib.Core.Path.{_≡_}
-use Prim.Native.Nat.{_-_, _≤_}
+use Prim.Native.Nat.{_≤_}
 use lib.ListN.{length}
 use Rattle.files.proofs.read_lines.Statement.{statement}
 use Rattle.files.proofs.read_lines.Tie as tie
 
 abbrev Inv-loop : tie.InvT-loop
-Inv-loop input₀ k n₀ left₀ input n left = (n ≤ length input) × (length input ≡ length input₀)
+Inv-loop input₀ k h₀ turns₀ input h turns = (h .bytes ≤ length input) × (h .length ≤ h .bytes) × (length input ≡ length input₀)
 
 abbrev μ-loop : tie.MeasureT-loop
-μ-loop input₀ k n₀ left₀ input n left = length input - n
+μ-loop input₀ k h₀ turns₀ input h turns = turns
 
 loop-holds : tie.Need-loop-holds Inv-loop μ-loop
 loop-holds c = search needs
 
-read-more-requires : tie.Need-read-more-requires Inv-loop μ-loop
-read-more-requires c κs = search needs
+read-on-requires : tie.Need-read-on-requires Inv-loop μ-loop
+read-on-requires c κs = search needs
 
 same-length : tie.Need-same-length Inv-loop μ-loop
 same-length c = search needs
@@ -24,17 +24,17 @@ same-length c = search needs
 returns : tie.Need-returns Inv-loop μ-loop
 returns c = search needs
 
-add-end : tie.Need-add-end Inv-loop μ-loop
-add-end c = search needs
-
-feeds-left-requires : tie.Need-feeds-left-requires Inv-loop μ-loop
-feeds-left-requires c κs = search needs
+hold-all-requires : tie.Need-hold-all-requires Inv-loop μ-loop
+hold-all-requires c κs = search needs
 
 same-length-2 : tie.Need-same-length-2 Inv-loop μ-loop
 same-length-2 c = search needs
 
 returns-2 : tie.Need-returns-2 Inv-loop μ-loop
 returns-2 c = search needs
+
+sub-turns : tie.Need-sub-turns Inv-loop μ-loop
+sub-turns c = search needs
 
 loop-less : tie.Need-loop-less Inv-loop μ-loop
 loop-less c = search needs
@@ -55,13 +55,13 @@ read-lines-spec =
     Inv-loop
     μ-loop
     loop-holds
-    read-more-requires
+    read-on-requires
     same-length
     returns
-    add-end
-    feeds-left-requires
+    hold-all-requires
     same-length-2
     returns-2
+    sub-turns
     loop-less
     loop-again
     same-length-3
