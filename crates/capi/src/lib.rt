@@ -194,6 +194,16 @@ pub extern "C" fn bannerscale_batch(
 
 // ---- the tools' door
 
+// The tools' point as the door takes it.
+fn point_of(p: DoorPoint) -> Point
+    ensures { λ r. ⌜ r ≡ doorPoint p ⌝ }
+{
+    Point {
+        first: p.first,
+        second: p.second,
+    }
+}
+
 // The door's answer as a struct.
 fn told(answer: Answer) -> DoorAnswer
     ensures { λ r. ⌜ r ≡ doorAnswer answer ⌝ }
@@ -216,26 +226,16 @@ fn told(answer: Answer) -> DoorAnswer
 pub extern "C" fn bannerscale_door_geographic_to_plane(sheet: &[u8], point: DoorPoint) -> DoorAnswer
     ensures { λ r. ⌜ r ≡ doorAnswer (toPlane (now (sheet .entry)) (doorPoint point)) ⌝ }
 {
-    told(door::geographic_to_plane(
-        sheet,
-        Point {
-            first: point.first,
-            second: point.second,
-        },
-    ))
+    let p = point_of(point);
+    told(door::geographic_to_plane(sheet, p))
 }
 
 #[no_mangle]
 pub extern "C" fn bannerscale_door_plane_to_geographic(sheet: &[u8], point: DoorPoint) -> DoorAnswer
     ensures { λ r. ⌜ r ≡ doorAnswer (toGeographic (now (sheet .entry)) (doorPoint point)) ⌝ }
 {
-    told(door::plane_to_geographic(
-        sheet,
-        Point {
-            first: point.first,
-            second: point.second,
-        },
-    ))
+    let p = point_of(point);
+    told(door::plane_to_geographic(sheet, p))
 }
 
 #[no_mangle]
@@ -245,13 +245,8 @@ pub extern "C" fn bannerscale_door_convergence_and_scale(
 ) -> DoorAnswer
     ensures { λ r. ⌜ r ≡ doorAnswer (toGrid (now (sheet .entry)) (doorPoint point)) ⌝ }
 {
-    told(door::convergence_and_scale(
-        sheet,
-        Point {
-            first: point.first,
-            second: point.second,
-        },
-    ))
+    let p = point_of(point);
+    told(door::convergence_and_scale(sheet, p))
 }
 
 #[no_mangle]
