@@ -1,0 +1,54 @@
+// The lines of an input that is read in pieces into a buffer: where the next line ends, and what is kept of a line that has not. The buffer's bytes from `from` to `to` are those that were read and
+// not yet handed on.
+ghost use mathlib.Core.Path.{_≡_};
+ghost use Prim.Native.Nat.{_+_, _≤_, min};
+ghost use mathlib.Core.List.{_++_};
+ghost use lib.ListN.{length, take, drop};
+
+pub const LINE_FEED: u8 = 10;
+
+// The most bytes that are kept of a line that has not ended: one more than a file's name has, and more than any line of a known form.
+pub const MOST_KEPT: usize = 256;
+ghost use Rattle.bytes.specs.Bytes.{indexOf};
+ghost use lib.Seq.{slice};
+ghost use Rattle.stream.specs.Stream.{mostKept};
+
+// Where the line from `from` on ends: at its line feed, or at `to` where it has not ended.
+pub fn line_end(buffer: &[u8], from: usize, to: usize) -> usize
+    requires { ⌜ (from ≤ to) × (to ≤ length (now buffer)) ⌝ }
+    ensures { λ r. ⌜ (r ≡ from + indexOf 10 (slice from to (now (buffer .entry)))) × (r ≤ to) ⌝ }
+{
+    bytes::scan::find(buffer, from, to, LINE_FEED)
+}
+
+// Moves the n bytes from `from` on to the buffer's front.
+fn move_front(buffer: &mut [u8], from: usize, n: usize)
+    requires { ⌜ from + n ≤ length (now buffer) ⌝ }
+    ensures { λ _. ⌜ now (buffer .exit) ≡ take n (drop from (now (buffer .entry))) ++ drop n (now (buffer .entry)) ⌝ }
+{
+    let mut i = 0;
+    while i < n {
+        let b = buffer[from + i];
+        buffer[i] = b;
+        i += 1;
+    }
+}
+
+fn least(a: usize, b: usize) -> usize
+    ensures { λ r. ⌜ r ≡ min a b ⌝ }
+{
+    if a < b {
+        return a;
+    }
+    b
+}
+
+// Keeps the line that has not ended, from `from` to `to`, at the buffer's front, as far as it is asked for; how many bytes are kept.
+pub fn keep(buffer: &mut [u8], from: usize, to: usize) -> usize
+    requires { ⌜ (from ≤ to) × (to ≤ length (now buffer)) ⌝ }
+    ensures { λ r. ⌜ (r ≡ length (take mostKept (slice from to (now (buffer .entry))))) × (now (buffer .exit) ≡ take mostKept (slice from to (now (buffer .entry))) ++ drop r (now (buffer .entry))) ⌝ }
+{
+    let n = least(to - from, MOST_KEPT);
+    move_front(buffer, from, n);
+    n
+}
