@@ -1,1 +1,2 @@
-pub mod Splitting
+pub mod Answering
+pub mod Printing

@@ -1,59 +1,64 @@
-// The lines of a block of the points program's input, answered where they lie.
+// The lines of the points program's input, answered as they come.
 use entries::Places;
 ghost use mathlib.Core.Path.{_≡_};
-ghost use Prim.Native.Nat.{_+_, _≤_};
-ghost use lib.ListN.{length};
+ghost use Prim.Native.Nat.{_+_, _*_, _≤_};
+ghost use lib.ListN.{length, take};
+ghost use lib.Seq.{slice};
 ghost use Rattle.entries.specs.Entries.{placesOf};
 ghost use Rattle.bodies.specs.Check.{checkOf};
+ghost use Rattle.decimal.specs.Writing.{Wrote};
 ghost use Rattle.lines.specs.Lines.{lineRoom};
-ghost use Rattle.blocks.specs.Blocks.{Answered};
+ghost use Rattle.stream.specs.Stream.{lastLine, endedLines, unended};
+ghost use Rattle.blocks.specs.Blocks.{answersOf, Answered};
 
-// How far the lines are answered: the place in the input behind the last of them, the place in the output behind its answer, and whether there is too little room
-// left for another.
+// How many bytes of the line that has not ended are kept at the buffer's front, and how many bytes of answers stand at the output's.
 pub struct Done {
-    pub read: usize,
-    pub written: usize,
-    pub full: bool,
+    pub kept: usize,
+    pub at: usize,
 }
 
-pub const LINE_FEED: u8 = 10;
-
-// Answers line after line from `from` on, to the last line feed of the input or until the output has too little room. The sheet is known to pass.
-pub fn answer_lines(
-    s: &[u8],
-    p: Places,
-    input: &[u8],
-    from: usize,
-    out: &mut [u8],
-    at: usize,
-) -> Done
-    requires { ⌜ (checkOf (now s) .number ≡ 0) × (p ≡ placesOf (now s)) × (from ≤ length (now input)) × (at + lineRoom ≤ length (now out)) ⌝ }
-    ensures { λ r. ⌜ Answered (now (s .entry)) (now (input .entry)) from (now (out .entry)) (now (out .exit)) at r ⌝ }
+// Answers the buffer's lines from `from` to `to` that have ended; where the last one begins, which has not, and how many bytes of answers there are. A line takes a byte or more, its line feed, so
+// that an output with room for an answer to each byte has room for all.
+fn answer_lines(s: &[u8], p: Places, buffer: &[u8], from: usize, to: usize, out: &mut [u8]) -> Done
+    requires { ⌜ (checkOf (now s) .number ≡ 0) × (p ≡ placesOf (now s)) × (from ≤ to) × (to ≤ length (now buffer)) × (lineRoom * to ≤ length (now out)) ⌝ }
+    ensures { λ r. ⌜ (r .kept ≤ to) × (slice (r .kept) to (now (buffer .entry)) ≡ unended (slice from to (now (buffer .entry)))) × Wrote (now (out .entry)) (now (out .exit)) 0 (r .at) (answersOf (now (s .entry)) (endedLines (slice from to (now (buffer .entry))))) ⌝ }
 {
     let mut i = from;
-    let mut o = at;
-    while i < input.len() {
-        let end = bytes::scan::find(input, i, input.len(), LINE_FEED);
-        if end == input.len() {
-            return Done {
-                read: i,
-                written: o,
-                full: false,
-            };
-        }
-        o = lines::answer(s, p, &input[i..end], out, o);
+    let mut at = 0;
+    let mut end = stream::line_end(buffer, i, to);
+    while end < to {
+        at = lines::answer(s, p, &buffer[i..end], out, at);
         i = end + 1;
-        if out.len() - o < lines::LINE_ROOM {
-            return Done {
-                read: i,
-                written: o,
-                full: true,
-            };
-        }
+        end = stream::line_end(buffer, i, to);
     }
-    Done {
-        read: i,
-        written: o,
-        full: false,
+    Done { kept: i, at }
+}
+
+// Answers the buffer's lines from `from` to `to` that have ended, and keeps the one that has not. The sheet is known to pass.
+pub fn answer_block(
+    s: &[u8],
+    p: Places,
+    buffer: &mut [u8],
+    from: usize,
+    to: usize,
+    out: &mut [u8],
+) -> Done
+    requires { ⌜ (checkOf (now s) .number ≡ 0) × (p ≡ placesOf (now s)) × (from ≤ to) × (to ≤ length (now buffer)) × (lineRoom * to ≤ length (now out)) ⌝ }
+    ensures { λ r. ⌜ Answered (now (s .entry)) (now (buffer .entry)) (now (buffer .exit)) from to (now (out .entry)) (now (out .exit)) r ⌝ }
+{
+    let d = answer_lines(s, p, buffer, from, to, out);
+    let at = d.at;
+    let kept = stream::keep(buffer, d.kept, to);
+    Done { kept, at }
+}
+
+// At the input's end: answers the line that has not ended, the buffer's first n bytes, where there is one; how many bytes of answers there are.
+pub fn answer_last(s: &[u8], p: Places, buffer: &[u8], n: usize, out: &mut [u8]) -> usize
+    requires { ⌜ (checkOf (now s) .number ≡ 0) × (p ≡ placesOf (now s)) × (n ≤ length (now buffer)) × (lineRoom ≤ length (now out)) ⌝ }
+    ensures { λ r. ⌜ Wrote (now (out .entry)) (now (out .exit)) 0 r (answersOf (now (s .entry)) (lastLine (take n (now (buffer .entry))))) ⌝ }
+{
+    if n == 0 {
+        return 0;
     }
+    lines::answer(s, p, &buffer[0..n], out, 0)
 }

@@ -1,3 +1,4 @@
 pub mod Splitting
 pub mod Joining
 pub mod Moving
+pub mod Parts

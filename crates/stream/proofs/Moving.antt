@@ -9,7 +9,7 @@ use lib.ListN.{length, take, drop, getD, set, length-drop}
 use lib.Seq.{take-nil, take-all, take-take, drop-nil, getD-drop, slice, length-slice, length-take-le}
 use Rattle.stream.specs.Stream.{mostKept}
 
-take-of-drop : (from k : ℕ) (l : List ℕ) → take k (drop from l) ≡ drop from (take (from + k) l)
+pub take-of-drop : (from k : ℕ) (l : List ℕ) → take k (drop from l) ≡ drop from (take (from + k) l)
 take-of-drop zero k l = let e : 0 + k ≡ k = omega arith in rw e
 take-of-drop (suc from) k [] = let e : suc from + k ≡ suc (from + k) = omega arith in rw e (take-nil k)
 take-of-drop (suc from) k (b ∷ l) = let e : suc from + k ≡ suc (from + k) = omega arith in rw e (take-of-drop from k l)

@@ -1,0 +1,40 @@
+-- `blocks::answer_block` meets its contract. Assumes nothing.
+use borrow.Author.Needs.{needs}
+use denote.Ref.{now}
+use Rattle.blocks.proofs.Answering.{answered}
+use Rattle.blocks.proofs.answer_block.Statement.{statement}
+use Rattle.blocks.proofs.answer_block.Tie as tie
+use Rattle.blocks.proofs.answer_block.Reads as reads
+use Rattle.blocks.proofs.answer_block.Lts as lts
+use Rattle.blocks.proofs.answer_lines.Reads as answer-lines-reads
+use Rattle.stream.proofs.keep.Reads as keep-reads
+
+-- src/lib.rt:49:9
+answer-lines-requires : tie.Need-answer-lines-requires
+answer-lines-requires c κs = search needs
+
+-- src/lib.rt:51:9
+keep-requires : tie.Need-keep-requires
+keep-requires c κs = search needs
+
+-- src/lib.rt:38:1
+same-length : tie.Need-same-length
+same-length c = search needs
+
+-- src/lib.rt:38:1
+same-length-2 : tie.Need-same-length-2
+same-length-2 c = search needs
+
+-- src/lib.rt:38:1
+returns : tie.Need-returns
+returns c =
+    let kept = c .before .before in
+    let done = kept .before .before .before .before in
+    let first = done .before .before .before .before .before .before in
+    let a = first .args in
+    let d = done .answer-lines .ensures in
+    answered (now (a .s)) (now (a .buffer)) _ _ _ (now (a .out)) _ _ (done .answer-lines .result .kept) (d .1) (d .2) (kept .keep .ensures .0) (kept .keep .ensures .1)
+
+pub answer-block-spec : {M : Type 1} → statement M
+answer-block-spec =
+    tie.close (tie.spec answer-lines-requires keep-requires same-length same-length-2 returns)
