@@ -52,9 +52,9 @@ module _ {s buffer : List ℕ} {from to : ℕ} {old out : List ℕ} {i at : ℕ}
       (sym (n .left) ∙ g .left, rw t at (g .wrote))
 
 module _ (s buffer after : List ℕ) (from to : ℕ) (old new : List ℕ) (r : Done) where
-  pub answered : (read : ℕ) → slice read to buffer ≡ unended (slice from to buffer) → Wrote old new 0 (r .at) (answersOf s (endedLines (slice from to buffer))) → r .kept ≡ length (take mostKept (slice read to buffer)) → after ≡ take mostKept (slice read to buffer) ++ drop (r .kept) buffer → Answered s buffer after from to old new r
+  pub answered : (read : ℕ) → slice read to buffer ≡ unended (slice from to buffer) → Wrote old new 0 (r .at) (answersOf s (endedLines (slice from to buffer))) → r .kept ≡ length (take mostKept (slice read to buffer)) → after ≡ take mostKept (slice read to buffer) ++ drop (r .kept) buffer → r .kept ≤ mostKept → r .at ≤ length old → Answered s buffer after from to old new r
   unfolding keptOf
-  answered read e w n m = record { wrote = w; kept = rw e at n; memory = rw e at m }
+  answered read e w n m l f = record { wrote = w; kept = rw e at n; memory = rw e at m; few = l; fits = f }
 
 -- ---- the input's end
 module _ (s : List ℕ) where

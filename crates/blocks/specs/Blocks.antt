@@ -1,12 +1,12 @@
 -- The lines of the points program's input as they come: those that have ended are answered, the one that has not is kept. s is the sheet; the buffer's bytes from `from` to `to` are those not yet answered.
-use Prim.Native.Nat.{ℕ}
+use Prim.Native.Nat.{ℕ, _≤_}
 use mathlib.Core.Path.{_≡_}
 use mathlib.Core.List.{List, [], _∷_, _++_}
 use lib.ListN.{length, drop}
 use lib.Seq.{slice}
 use Rattle.decimal.specs.Writing.{Wrote}
 use Rattle.lines.specs.Lines.{answerText}
-use Rattle.stream.specs.Stream.{endedLines, keptOf}
+use Rattle.stream.specs.Stream.{endedLines, keptOf, mostKept}
 use Rattle.blocks.specs.declared.Done.{Done}
 
 -- "then one line per line": an answer for each line, in their order.
@@ -19,3 +19,5 @@ pub record Answered (s buffer after : List ℕ) (from to : ℕ) (old new : List 
   pub wrote : Wrote old new 0 (r .at) (answersOf s (endedLines (slice from to buffer)))
   pub kept : r .kept ≡ length (keptOf (slice from to buffer))
   pub memory : after ≡ keptOf (slice from to buffer) ++ drop (r .kept) buffer
+  pub few : r .kept ≤ mostKept
+  pub fits : r .at ≤ length old

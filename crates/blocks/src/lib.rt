@@ -21,7 +21,7 @@ pub struct Done {
 // that an output with room for an answer to each byte has room for all.
 fn answer_lines(s: &[u8], p: Places, buffer: &[u8], from: usize, to: usize, out: &mut [u8]) -> Done
     requires { ⌜ (checkOf (now s) .number ≡ 0) × (p ≡ placesOf (now s)) × (from ≤ to) × (to ≤ length (now buffer)) × (lineRoom * to ≤ length (now out)) ⌝ }
-    ensures { λ r. ⌜ (r .kept ≤ to) × (slice (r .kept) to (now (buffer .entry)) ≡ unended (slice from to (now (buffer .entry)))) × Wrote (now (out .entry)) (now (out .exit)) 0 (r .at) (answersOf (now (s .entry)) (endedLines (slice from to (now (buffer .entry))))) ⌝ }
+    ensures { λ r. ⌜ (r .kept ≤ to) × (r .at ≤ length (now (out .entry))) × (slice (r .kept) to (now (buffer .entry)) ≡ unended (slice from to (now (buffer .entry)))) × Wrote (now (out .entry)) (now (out .exit)) 0 (r .at) (answersOf (now (s .entry)) (endedLines (slice from to (now (buffer .entry))))) ⌝ }
 {
     let mut i = from;
     let mut at = 0;
@@ -55,7 +55,7 @@ pub fn answer_block(
 // At the input's end: answers the line that has not ended, the buffer's first n bytes, where there is one; how many bytes of answers there are.
 pub fn answer_last(s: &[u8], p: Places, buffer: &[u8], n: usize, out: &mut [u8]) -> usize
     requires { ⌜ (checkOf (now s) .number ≡ 0) × (p ≡ placesOf (now s)) × (n ≤ length (now buffer)) × (lineRoom ≤ length (now out)) ⌝ }
-    ensures { λ r. ⌜ Wrote (now (out .entry)) (now (out .exit)) 0 r (answersOf (now (s .entry)) (lastLine (take n (now (buffer .entry))))) ⌝ }
+    ensures { λ r. ⌜ (r ≤ length (now (out .entry))) × Wrote (now (out .entry)) (now (out .exit)) 0 r (answersOf (now (s .entry)) (lastLine (take n (now (buffer .entry))))) ⌝ }
 {
     if n == 0 {
         return 0;

@@ -1,12 +1,35 @@
-// What a program reads: the bytes of a file whose name a line of its input gives, and its standard input, into lent memory. No contract can say what is read: each says how far it reaches.
+// What a program takes from the system and hands to it: a named file's bytes and standard input, into lent memory, and standard output. No contract can say what is read or written: each says how far
+// it reaches, and that what stood before stays. Where the system refuses, standard error says why.
+use libc::EINTR;
+use libc::STDERR_FILENO;
 use libc::STDIN_FILENO;
+use libc::STDOUT_FILENO;
+ghost use mathlib.Core.Path.{_≡_};
 ghost use Prim.Native.Nat.{_+_, _<_, _≤_};
-ghost use lib.ListN.{length};
+ghost use lib.ListN.{length, take};
 
-// The most bytes of a file's name. A line of a known form has less.
+// The most bytes of a file's name.
 pub const MOST_NAME: usize = 255;
 
-const LINE_FEED: u8 = 10;
+const CARRIAGE_RETURN: u8 = 13;
+
+// ---- standard output and standard error
+
+// Writes a text to standard output; false where the system refuses.
+pub fn tell(text: &[u8]) -> bool {
+    if io::write_all(STDOUT_FILENO, text) {
+        return true;
+    }
+    os::fail(b"cannot write standard output");
+    false
+}
+
+// Writes a text to standard error.
+pub fn say(text: &[u8]) {
+    io::write_all(STDERR_FILENO, text);
+}
+
+// ---- reading
 
 // What a read gave: whether it failed, and how many bytes, 0 at the end.
 struct Got {
@@ -15,9 +38,9 @@ struct Got {
 }
 
 // One read into buf from `from` on.
-fn read_part(fd: i32, buf: &mut [u8], from: usize) -> Got
+fn read_once(fd: i32, buf: &mut [u8], from: usize) -> Got
     requires { ⌜ from ≤ length (now buf) ⌝ }
-    ensures { λ r. ⌜ from + r .count ≤ length (now (buf .exit)) ⌝ }
+    ensures { λ r. ⌜ (from + r .count ≤ length (now (buf .exit))) × (take from (now (buf .exit)) ≡ take from (now (buf .entry))) ⌝ }
 {
     let end = buf.len();
     let got = libc::read(fd, &mut buf[from..end]);
@@ -33,169 +56,184 @@ fn read_part(fd: i32, buf: &mut [u8], from: usize) -> Got
     }
 }
 
+// Whether a signal interrupted the read.
+fn is_interrupted(got: Got) -> bool {
+    got.failed & (os::errno() == EINTR)
+}
+
+// One read into buf from `from` on, tried again where a signal interrupted it. A proved loop has to end, so it counts its turns down from a number that no run uses up.
+fn read_part(fd: i32, buf: &mut [u8], from: usize) -> Got
+    requires { ⌜ from ≤ length (now buf) ⌝ }
+    ensures { λ r. ⌜ (from + r .count ≤ length (now (buf .exit))) × (take from (now (buf .exit)) ≡ take from (now (buf .entry))) ⌝ }
+{
+    let mut turns = u64::MAX;
+    while 0 < turns {
+        let got = read_once(fd, buf, from);
+        if !is_interrupted(got) {
+            return got;
+        }
+        turns -= 1;
+    }
+    Got {
+        failed: true,
+        count: 0,
+    }
+}
+
 // ---- a file
 
 // The file's bytes in the buffer, as far as it reaches; none where a read fails.
-fn read_sheet(fd: i32, sheet: &mut [u8]) -> usize
-    ensures { λ r. ⌜ r ≤ length (now (sheet .exit)) ⌝ }
+fn read_sheet(fd: i32, sheet: &mut [u8]) -> Got
+    ensures { λ r. ⌜ r .count ≤ length (now (sheet .exit)) ⌝ }
 {
     let mut done = 0;
     while done < sheet.len() {
         let got = read_part(fd, sheet, done);
         if got.failed {
-            return 0;
+            return Got {
+                failed: true,
+                count: 0,
+            };
         }
         let count = got.count;
         if count == 0 {
-            return done;
+            return Got {
+                failed: false,
+                count: done,
+            };
         }
         done += count;
     }
-    done
+    Got {
+        failed: false,
+        count: done,
+    }
+}
+
+// Whether the name's last byte is a carriage return, which no terminal shows.
+fn ends_in_return(name: &[u8]) -> bool {
+    let n = name.len();
+    if n == 0 {
+        return false;
+    }
+    name[n - 1] == CARRIAGE_RETURN
+}
+
+// Says which file could not be read, and why.
+fn say_unread(name: &[u8]) {
+    say(b"cannot read the sheet ");
+    os::fail(name);
+    if ends_in_return(name) {
+        say(b"its name ends in a carriage return\n");
+    }
+}
+
+// Whether the name is one that a file may have: of at most 255 bytes, none of them 0.
+fn is_name(name: &[u8]) -> bool {
+    if MOST_NAME < name.len() {
+        say(b"cannot read the sheet: its name has more than 255 bytes\n");
+        return false;
+    }
+    if bytes::scan::find(name, 0, name.len(), 0) < name.len() {
+        say(b"cannot read the sheet: its name has a zero byte\n");
+        return false;
+    }
+    true
 }
 
 // The named file's bytes in the buffer; none where the name is too long or has a zero byte, or the file cannot be read.
 pub fn load(name: &[u8], sheet: &mut [u8]) -> usize
     ensures { λ r. ⌜ r ≤ length (now (sheet .exit)) ⌝ }
 {
-    if MOST_NAME < name.len() {
+    if !is_name(name) {
         return 0;
     }
     let fd = os::open_read(name);
     if fd < 0 {
+        say_unread(name);
         return 0;
     }
-    let size = read_sheet(fd, sheet);
+    let got = read_sheet(fd, sheet);
+    if got.failed {
+        say_unread(name);
+    }
     libc::close(fd);
-    size
+    got.count
 }
 
 // ---- standard input
 
-// How many bytes a read of standard input put into the buffer from `from` on, 0 at its end.
-pub fn read_more(input: &mut [u8], from: usize) -> usize
-    requires { ⌜ from ≤ length (now input) ⌝ }
-    ensures { λ r. ⌜ from + r ≤ length (now (input .exit)) ⌝ }
-{
-    read_part(STDIN_FILENO, input, from).count
+// What the buffer holds after a read: its first `to` bytes, and whether the read failed.
+pub struct More {
+    pub to: usize,
+    pub failed: bool,
 }
 
-// Reads more behind the first n bytes; how many the buffer then holds, n at the input's end.
-pub fn read_on(input: &mut [u8], n: usize) -> usize
-    requires { ⌜ n ≤ length (now input) ⌝ }
-    ensures { λ r. ⌜ (n ≤ r) × (r ≤ length (now (input .exit))) ⌝ }
+// Reads more of standard input behind the buffer's first n bytes, which stay as they were. It holds n bytes still where the input has ended, and where the read failed. There has to be room: a read
+// of none would pass for the input's end.
+pub fn read_on(input: &mut [u8], n: usize) -> More
+    requires { ⌜ n < length (now input) ⌝ }
+    ensures { λ r. ⌜ (n ≤ r .to) × (r .to ≤ length (now (input .exit))) × (take n (now (input .exit)) ≡ take n (now (input .entry))) ⌝ }
 {
-    n + read_more(input, n)
-}
-
-// The place of the line feed that ends the line from `from` on, `to` where none stands before it.
-pub fn line_end(input: &[u8], from: usize, to: usize) -> usize
-    requires { ⌜ (from ≤ to) × (to ≤ length (now input)) ⌝ }
-    ensures { λ r. ⌜ (from ≤ r) × (r ≤ to) ⌝ }
-{
-    bytes::scan::find(input, from, to, LINE_FEED)
-}
-
-// The place behind a line that ends at `end` of n bytes.
-pub fn behind(end: usize, n: usize) -> usize
-    requires { ⌜ end ≤ n ⌝ }
-    ensures { λ r. ⌜ (end ≤ r) × (r ≤ n) ⌝ }
-{
-    if end < n {
-        return end + 1;
+    let got = read_part(STDIN_FILENO, input, n);
+    if got.failed {
+        os::fail(b"cannot read standard input");
     }
-    n
-}
-
-// What is held of the input's first lines: how many bytes, how many lines are still to end, and the length of the one that has not.
-struct Held {
-    bytes: usize,
-    left: usize,
-    length: usize,
-}
-
-fn less_one(n: usize) -> usize {
-    if n == 0 {
-        return 0;
-    }
-    n - 1
-}
-
-// One byte more behind those that are held. Of a first line that passes MOST_NAME bytes only so much is kept as shows that it does, so that the first lines never fill the memory.
-fn hold(input: &mut [u8], h: Held, b: u8) -> Held
-    requires { ⌜ (h .bytes < length (now input)) × (h .length ≤ h .bytes) ⌝ }
-    ensures { λ r. ⌜ (r .bytes ≤ h .bytes + 1) × (r .length ≤ r .bytes) ⌝ }
-{
-    let n = h.bytes;
-    if b == LINE_FEED {
-        input[n] = b;
-        return Held {
-            bytes: n + 1,
-            left: less_one(h.left),
-            length: 0,
-        };
-    }
-    if (0 < h.left) & (MOST_NAME < h.length) {
-        return h;
-    }
-    input[n] = b;
-    Held {
-        bytes: n + 1,
-        left: h.left,
-        length: h.length + 1,
+    More {
+        to: n + got.count,
+        failed: got.failed,
     }
 }
 
-// The bytes that a read put behind those that are held, up to `to`, one after another.
-fn hold_all(input: &mut [u8], h: Held, to: usize) -> Held
-    requires { ⌜ (h .bytes ≤ to) × (to ≤ length (now input)) × (h .length ≤ h .bytes) ⌝ }
-    ensures { λ r. ⌜ (r .bytes ≤ to) × (r .length ≤ r .bytes) ⌝ }
-{
-    let mut s = h;
-    let mut i = h.bytes;
-    while i < to {
-        let b = input[i];
-        s = hold(input, s, b);
-        i += 1;
-    }
-    s
+// A line of standard input: the buffer's bytes from `from` to `end`; those from `next` to `to` stand behind it. Where a read failed the line did not come whole.
+pub struct Line {
+    pub from: usize,
+    pub end: usize,
+    pub next: usize,
+    pub to: usize,
+    pub failed: bool,
 }
 
-// Reads until the first k lines have ended, the buffer is full or the input ends; how many bytes it then holds. A line of them that passes MOST_NAME bytes is held as one of MOST_NAME + 1.
-// A proved loop has to end, so it counts its turns down from a number that no run uses up.
-pub fn read_lines(input: &mut [u8], k: usize) -> usize
-    ensures { λ r. ⌜ r ≤ length (now (input .exit)) ⌝ }
+// The next line of the buffer's bytes from `from` to `to` and what is read behind them, or at the input's end what is left; no further than 256 bytes of it, which is more than a name or a line of a
+// known form has.
+pub fn read_line(input: &mut [u8], from: usize, to: usize) -> Line
+    requires { ⌜ (from ≤ to) × (to ≤ length (now input)) × (256 < length (now input)) ⌝ }
+    ensures { λ r. ⌜ (r .from ≤ r .end) × (r .end ≤ r .next) × (r .next ≤ r .to) × (r .to ≤ length (now (input .exit))) ⌝ }
 {
-    let mut h = Held {
-        bytes: 0,
-        left: k,
-        length: 0,
-    };
+    let mut start = from;
+    let mut n = to;
     let mut turns = u64::MAX;
     while 0 < turns {
-        let n = h.bytes;
-        let end = read_on(input, n);
-        if end == n {
-            return n;
+        let end = stream::line_end(input, start, n);
+        if end < n {
+            return Line {
+                from: start,
+                end,
+                next: end + 1,
+                to: n,
+                failed: false,
+            };
         }
-        h = hold_all(input, h, end);
-        if h.left == 0 {
-            return h.bytes;
+        let kept = stream::keep(input, start, n);
+        let more = read_on(input, kept);
+        n = more.to;
+        start = 0;
+        if n == kept {
+            return Line {
+                from: 0,
+                end: n,
+                next: n,
+                to: n,
+                failed: more.failed,
+            };
         }
         turns -= 1;
     }
-    h.bytes
-}
-
-// Moves the bytes from `from` up to `to` to the buffer's front.
-pub fn keep(input: &mut [u8], from: usize, to: usize)
-    requires { ⌜ (from ≤ to) × (to ≤ length (now input)) ⌝ }
-{
-    let mut i = 0;
-    let n = to - from;
-    while i < n {
-        let b = input[from + i];
-        input[i] = b;
-        i += 1;
+    Line {
+        from: n,
+        end: n,
+        next: n,
+        to: n,
+        failed: true,
     }
 }

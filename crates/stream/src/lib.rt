@@ -9,6 +9,7 @@ pub const LINE_FEED: u8 = 10;
 
 // The most bytes that are kept of a line that has not ended: one more than a file's name has, and more than any line of a known form.
 pub const MOST_KEPT: usize = 256;
+
 ghost use Rattle.bytes.specs.Bytes.{indexOf};
 ghost use lib.Seq.{slice};
 ghost use Rattle.stream.specs.Stream.{mostKept};
@@ -46,7 +47,7 @@ fn least(a: usize, b: usize) -> usize
 // Keeps the line that has not ended, from `from` to `to`, at the buffer's front, as far as it is asked for; how many bytes are kept.
 pub fn keep(buffer: &mut [u8], from: usize, to: usize) -> usize
     requires { ⌜ (from ≤ to) × (to ≤ length (now buffer)) ⌝ }
-    ensures { λ r. ⌜ (r ≡ length (take mostKept (slice from to (now (buffer .entry))))) × (now (buffer .exit) ≡ take mostKept (slice from to (now (buffer .entry))) ++ drop r (now (buffer .entry))) ⌝ }
+    ensures { λ r. ⌜ (r ≡ length (take mostKept (slice from to (now (buffer .entry))))) × (now (buffer .exit) ≡ take mostKept (slice from to (now (buffer .entry))) ++ drop r (now (buffer .entry))) × (r ≤ mostKept) ⌝ }
 {
     let n = least(to - from, MOST_KEPT);
     move_front(buffer, from, n);

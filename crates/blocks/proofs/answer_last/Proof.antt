@@ -1,4 +1,5 @@
 use borrow.Author.Needs.{needs}
+use native.Mathlib.Omega.{arith}
 use denote.Ref.{now}
 use Rattle.blocks.proofs.Answering.{last-none, last-line}
 -- `blocks::answer_last` meets its contract. Assumes nothing.
@@ -12,7 +13,7 @@ use Rattle.lines.proofs.answer.Reads as answer-reads
 returns : tie.Need-returns
 returns c =
     let first = c .before .before .before .before in
-    last-none (now (first .args .s)) _ (now (first .args .buffer)) (now (first .args .out)) (c .if1 .taken)
+    (omega arith, last-none (now (first .args .s)) _ (now (first .args .buffer)) (now (first .args .out)) (c .if1 .taken))
 
 -- src/lib.rt:63:25
 sub-answer : tie.Need-sub-answer
@@ -40,7 +41,7 @@ returns-2 c =
     let put = c .before .before .answer in
     let known = c .before .before .before .before .before in
     let first = known .before .before .before .before in
-    last-line (now (first .args .s)) _ (now (first .args .buffer)) _ _ _ (first .pre .2) (known .if1 .left) (put .ensures .1)
+    (search needs, last-line (now (first .args .s)) _ (now (first .args .buffer)) _ _ _ (first .pre .2) (known .if1 .left) (put .ensures .1))
 
 pub answer-last-spec : {M : Type 1} → statement M
 answer-last-spec =

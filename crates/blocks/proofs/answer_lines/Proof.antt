@@ -79,7 +79,7 @@ returns c =
     let l = c .before .loop in
     let first = c .before .before .before .before .before .before in
     let d = all-done (l .inv .0) (first .pre .3) _ (l .inv .1) (c .loop-test .left) (l .inv .2) in
-    (l .inv .0 .inside, d .0, d .1)
+    (l .inv .0 .inside, omega (arith, l .inv .0 .room, l .inv .0 .inside, first .pre .4), d .0, d .1)
 
 pub answer-lines-spec : {M : Type 1} → statement M
 answer-lines-spec =

@@ -1,62 +1,65 @@
 -- `files::read_part` meets its contract. Assumes nothing.
-use mathlib.Core.Path.{_≡_}
-use native.Mathlib.Omega.{arith}
-use denote.Ref.{now}
-use mir.Syntax.{w64}
-use mir.Val.{toZ, ofZ}
-use Rattle.files.proofs.Moves.{moved-part, moved-size}
+use mathlib.Core.Path.{_≡_, _∙_}
+use lib.ListN.{length, take}
 use borrow.Author.Needs.{needs}
 use Rattle.files.proofs.read_part.Statement.{statement}
 use Rattle.files.proofs.read_part.Tie as tie
 
-value : (c : tie.After-read) → toZ w64 (ofZ w64 (c .read .result)) ≡ c .read .result
-value c = search needs
+abbrev Inv-loop : tie.InvT-loop
+Inv-loop fd buf₀ from turns₀ buf turns = (length buf ≡ length buf₀) × (take from buf ≡ take from buf₀)
 
-sub-read : tie.Need-sub-read
-sub-read c = search needs
+abbrev μ-loop : tie.MeasureT-loop
+μ-loop fd buf₀ from turns₀ buf turns = turns
 
-part-read-start : tie.Need-part-read-start
-part-read-start c = search needs
+loop-holds : tie.Need-loop-holds Inv-loop μ-loop
+loop-holds c = search needs
 
-part-read-end : tie.Need-part-read-end
-part-read-end c = search needs
+read-once-requires : tie.Need-read-once-requires Inv-loop μ-loop
+read-once-requires c κs = search needs
 
-read-requires : tie.Need-read-requires
-read-requires c κs = search needs
+is-interrupted-requires : tie.Need-is-interrupted-requires Inv-loop μ-loop
+is-interrupted-requires c κs = search needs
 
-same-length : tie.Need-same-length
+same-length : tie.Need-same-length Inv-loop μ-loop
 same-length c = search needs
 
-returns : tie.Need-returns
-returns c = search needs
+returns : tie.Need-returns Inv-loop μ-loop
+returns c =
+    let got = c .before .before .before .before .read-once in
+    let l = c .before .before .before .before .before .before .before .loop in
+    (got .ensures .0, got .ensures .1 ∙ l .inv .1)
 
-cast-t7 : tie.Need-cast-t7
-cast-t7 c =
-    let e = value (c .before .before .before) in
-    let a = c .before .before .before .before .before .before .args in
-    let most = moved-part (now (a .buf)) (a .from) (c .before .before .before .read .result) (c .before .before .before .read .ensures) (rw e at (c .if1 .left)) in
-    (rw e (moved-size (c .before .before .before .read .result) (rw e at (c .if1 .left))), rw e (record { fits = omega (arith, most) }))
+sub-turns : tie.Need-sub-turns Inv-loop μ-loop
+sub-turns c = search needs
 
-same-length-2 : tie.Need-same-length-2
+loop-less : tie.Need-loop-less Inv-loop μ-loop
+loop-less c = search needs
+
+loop-again : tie.Need-loop-again Inv-loop μ-loop
+loop-again c =
+    let got = c .before .before .before .before .read-once in
+    let l = c .before .before .before .before .before .before .before .loop in
+    (search needs, got .ensures .1 ∙ l .inv .1)
+
+same-length-2 : tie.Need-same-length-2 Inv-loop μ-loop
 same-length-2 c = search needs
 
-returns-2 : tie.Need-returns-2
-returns-2 c =
-    let e = value (c .before .before .before) in
-    let a = c .before .before .before .before .before .before .args in
-    let most = moved-part (now (a .buf)) (a .from) (c .before .before .before .read .result) (c .before .before .before .read .ensures) (rw e at (c .if1 .left)) in
-    rw e (omega (arith, same-length-2 c, most))
+returns-2 : tie.Need-returns-2 Inv-loop μ-loop
+returns-2 c = search needs
 
 pub read-part-spec : {M : Type 1} → statement M
 read-part-spec =
     tie.close
     (tie.spec
-    sub-read
-    part-read-start
-    part-read-end
-    read-requires
+    Inv-loop
+    μ-loop
+    loop-holds
+    read-once-requires
+    is-interrupted-requires
     same-length
     returns
-    cast-t7
+    sub-turns
+    loop-less
+    loop-again
     same-length-2
     returns-2)

@@ -1,8 +1,8 @@
 -- `files::read_sheet` meets its contract. Assumes nothing.
-use borrow.Author.Needs.{needs}
 use mathlib.Core.Path.{_≡_}
 use Prim.Native.Nat.{_-_, _≤_}
 use lib.ListN.{length}
+use borrow.Author.Needs.{needs}
 use Rattle.files.proofs.read_sheet.Statement.{statement}
 use Rattle.files.proofs.read_sheet.Tie as tie
 

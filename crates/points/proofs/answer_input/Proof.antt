@@ -1,18 +1,19 @@
 -- `points::answer_input` meets its contract. Assumes nothing.
-use borrow.Author.Needs.{needs}
 use mathlib.Core.Path.{_≡_}
-use Prim.Native.Nat.{_+_, _≤_, _<_}
+use Prim.Native.Nat.{_≤_, _<_, _*_}
+use native.Mathlib.Omega.{arith}
 use lib.ListN.{length}
 use Rattle.lines.specs.Lines.{lineRoom}
+use Rattle.stream.specs.Stream.{mostKept}
+use borrow.Author.Needs.{needs}
 use Rattle.points.proofs.answer_input.Statement.{statement}
 use Rattle.points.proofs.answer_input.Tie as tie
 
 abbrev Inv-loop : tie.InvT-loop
-Inv-loop sheet p input₀ from to out₀ at s₀ turns₀ input out s turns =
-    (s .kept < 256) × (s .at + lineRoom ≤ length out) × (length input ≡ length input₀) × (length out ≡ length out₀)
+Inv-loop sheet p input₀ from to out₀ s₀ turns₀ input out s turns = (s .kept ≤ mostKept) × (s .at ≤ length out) × (length input ≡ length input₀) × (length out ≡ length out₀) × (mostKept < length input) × (lineRoom * length input ≤ length out)
 
 abbrev μ-loop : tie.MeasureT-loop
-μ-loop sheet p input₀ from to out₀ at s₀ turns₀ input out s turns = turns
+μ-loop sheet p input₀ from to out₀ s₀ turns₀ input out s turns = turns
 
 answer-block-requires : tie.Need-answer-block-requires Inv-loop μ-loop
 answer-block-requires c κs = search needs
@@ -20,23 +21,17 @@ answer-block-requires c κs = search needs
 loop-holds : tie.Need-loop-holds Inv-loop μ-loop
 loop-holds c = search needs
 
-read-more-requires : tie.Need-read-more-requires Inv-loop μ-loop
-read-more-requires c κs = search needs
+sub-tell : tie.Need-sub-tell Inv-loop μ-loop
+sub-tell c = search needs
 
-answer-last-requires : tie.Need-answer-last-requires Inv-loop μ-loop
-answer-last-requires c κs = search needs
+part-tell-start : tie.Need-part-tell-start Inv-loop μ-loop
+part-tell-start c = search needs
 
-sub-write-all : tie.Need-sub-write-all Inv-loop μ-loop
-sub-write-all c = search needs
+part-tell-end : tie.Need-part-tell-end Inv-loop μ-loop
+part-tell-end c = search needs
 
-part-write-all-start : tie.Need-part-write-all-start Inv-loop μ-loop
-part-write-all-start c = search needs
-
-part-write-all-end : tie.Need-part-write-all-end Inv-loop μ-loop
-part-write-all-end c = search needs
-
-write-all-requires : tie.Need-write-all-requires Inv-loop μ-loop
-write-all-requires c κs = search needs
+tell-requires : tie.Need-tell-requires Inv-loop μ-loop
+tell-requires c κs = search needs
 
 same-length : tie.Need-same-length Inv-loop μ-loop
 same-length c = search needs
@@ -47,11 +42,11 @@ same-length-2 c = search needs
 returns : tie.Need-returns Inv-loop μ-loop
 returns c = search needs
 
-add-answer-next : tie.Need-add-answer-next Inv-loop μ-loop
-add-answer-next c = search needs
-
-answer-next-requires : tie.Need-answer-next-requires Inv-loop μ-loop
-answer-next-requires c κs = search needs
+turn-requires : tie.Need-turn-requires Inv-loop μ-loop
+turn-requires c κs =
+    let l = c .before .before .before .before .before .before .before .before .loop in
+    let first = c .before .before .before .before .before .before .before .before .before .before .before .before .before .before .before .before .before .before .before in
+    (first .pre .0, first .pre .1, l .inv .0, l .inv .4, l .inv .5)
 
 sub-turns : tie.Need-sub-turns Inv-loop μ-loop
 sub-turns c = search needs
@@ -79,17 +74,14 @@ answer-input-spec =
     μ-loop
     answer-block-requires
     loop-holds
-    read-more-requires
-    answer-last-requires
-    sub-write-all
-    part-write-all-start
-    part-write-all-end
-    write-all-requires
+    sub-tell
+    part-tell-start
+    part-tell-end
+    tell-requires
     same-length
     same-length-2
     returns
-    add-answer-next
-    answer-next-requires
+    turn-requires
     sub-turns
     loop-less
     loop-again

@@ -23,7 +23,7 @@ returns c =
     let start = known .before .before in
     let old = now (start .args .buffer) in
     let l = known .least .ensures in
-    (kept-length old _ _ _ (start .pre .0) (start .pre .1) l, kept-memory old _ _ _ (start .pre .0) (start .pre .1) l _ (c .before .before .move-front .ensures))
+    (kept-length old _ _ _ (start .pre .0) (start .pre .1) l, kept-memory old _ _ _ (start .pre .0) (start .pre .1) l _ (c .before .before .move-front .ensures), search needs)
 
 pub keep-spec : {M : Type 1} → statement M
 keep-spec = tie.close (tie.spec sub-least least-requires move-front-requires same-length returns)

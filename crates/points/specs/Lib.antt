@@ -1,0 +1,2 @@
+-- One turn of the points program.
+pub mod Turn
