@@ -11,9 +11,9 @@ ghost use Rattle.stream.specs.Stream.{mostKept};
 ghost use Rattle.points.specs.Turn.{Turned};
 
 // Room for the input, and for an answer to each of its bytes.
-const INPUT: usize = 4_352;
+const INPUT: usize = 16_640;
 
-const OUTPUT: usize = 287_232;
+const OUTPUT: usize = 1_098_240;
 
 // The bytes kept of a line that has not ended, the bytes of answers to write, and whether the input has ended or its reading failed.
 struct State {
@@ -95,10 +95,17 @@ fn run(sheet: &[u8], input: &mut [u8], from: usize, to: usize, out: &mut [u8])
     answer_input(sheet, entries::places_of(sheet), input, from, to, out);
 }
 
+// The output's memory. It is made apart because the proof of a function that holds so long an array would spell it out.
+fn output() -> [u8; OUTPUT]
+    ensures { λ r. ⌜ 1_098_240 ≡ length r ⌝ }
+{
+    [0; OUTPUT]
+}
+
 fn main() {
     let mut sheet = [0u8; 65536];
     let mut input = [0u8; INPUT];
-    let mut out = [0u8; OUTPUT];
+    let mut out = output();
     let name = files::read_line(&mut input, 0, 0);
     if name.failed {
         return;
