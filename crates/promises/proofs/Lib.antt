@@ -2,6 +2,7 @@
 pub mod NearestIsNearest
 pub mod OneAnswer
 pub mod AnswersFit
+pub mod Counts
 pub mod SizesAndSigns
 pub mod Corrections
 pub mod OneAnswerForC
