@@ -5,5 +5,6 @@ pub mod AnswersFit
 pub mod Counts
 pub mod SizesAndSigns
 pub mod Corrections
+pub mod OneRow
 pub mod OneAnswerForC
 pub mod Redo

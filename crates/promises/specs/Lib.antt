@@ -3,4 +3,5 @@ pub mod Meaning
 pub mod Conversions
 pub mod Counts
 pub mod Corrections
+pub mod OneRow
 pub mod Redo
