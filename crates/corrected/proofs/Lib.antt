@@ -12,3 +12,4 @@ pub mod AllSame
 pub mod Minutes
 pub mod OwnBytes
 pub mod OnlyRow
+pub mod StillBytes

@@ -21,12 +21,13 @@ use Rattle.tables.proofs.Parts.{contents-none}
 use Rattle.correct.specs.Correction.{correctionOf, correctedOf, withRow}
 use Rattle.correct.proofs.RowWords.{FiguresFit, figures-fit}
 use Rattle.correct.proofs.Judged.{number-is}
-use Rattle.judge.proofs.Kept.{kept-zero}
+use Rattle.judge.proofs.Kept.{Kept, zero-keeps, kept-zero}
 use Rattle.touched.specs.Touched.{hasMinute, rowNamed}
 use Rattle.corrected.proofs.WithRow.{length-stays}
 use Rattle.corrected.proofs.WholeCheck.{must-range, must-before, must-after}
 use Rattle.corrected.proofs.Minutes.{each-named}
 use Rattle.corrected.proofs.OnlyRow.{row-keeps, start-kept, rows-kept, minute-kept, figures-range, only-row}
+use Rattle.corrected.proofs.StillBytes.{still-bytes}
 use Rattle.promises.specs.Corrections.{Passes, putIn}
 use Rattle.promises.specs.OneRow.{wordOf, minuteIn, figuresIn, ButFor, Bytes, Reaches, ReachesRows, RefusedStays}
 use Rattle.promises.proofs.Corrections.{writes, only-then, new}
@@ -93,7 +94,7 @@ module _ (s : List ℕ) (passes : Passes s) (r : ℕ) (there : r < rowsOf s lati
 
   -- ---- after a correction that was accepted
   no-other : (f : Figures) → correctionOf s minute f ≡ 0
-      → let t = correctedOf s minute f in Passes t × ButFor s t r × (figuresIn t r ≡ f)
+      → let t = correctedOf s minute f in Passes t × ButFor s t r × (figuresIn t r ≡ f) × (Bytes s → Bytes t)
   no-other f e =
       let t = putIn s minute f in
       let but : ButFor s t r = put-in f in
@@ -101,7 +102,13 @@ module _ (s : List ℕ) (passes : Passes s) (r : ℕ) (there : r < rowsOf s lati
       let rows : rowsOf t latitude ≡ n = rows-kept s z t r there (but .long) (but .others) in
       let body : bodyOf t latitude ≡ partOf t a (n * 8) = rw (start, rows) in
       let here : figuresIn t r ≡ f = figures-are t start ∙ ap (λ (u : List ℕ). figuresAt u r) (sym body) ∙ ap (figuresAt (bodyOf t latitude)) (sym named) ∙ new s passes minute f e in
-      rw (writes s passes minute f e) (only-then s passes minute f e, but, here)
+      rw (writes s passes minute f e) (only-then s passes minute f e, but, here, bytes)
+    where
+      kept : Kept (bodyOf s latitude) n minute f
+      kept = zero-keeps (bodyOf s latitude) n minute f (sym (number-is s minute f z) ∙ e)
+
+      bytes : Bytes s → Bytes (putIn s minute f)
+      bytes old q = rw (put-is f) (still-bytes s ok r f there (kept .range) (rw named at (kept .before)) (rw named at (kept .after)) old q)
 
   -- ---- a sheet that passes, and is s but for the row
   module _ (t : List ℕ) (bytes : Bytes t) (passes′ : Passes t) (but : ButFor s t r) where

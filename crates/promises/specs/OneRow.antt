@@ -43,9 +43,9 @@ Bytes t = (q : ℕ) → getD t q 0 < 256
 pub record Reaches (s : List ℕ) (r : ℕ) : Type 0 where
   -- Every sheet t that passes and is s but for the row: it is accepted, and what is written is t, byte for byte.
   pub every : (t : List ℕ) → Bytes t → Passes t → ButFor s t r → (correctionOf s (minuteIn s r) (figuresIn t r) ≡ 0) × (correctedOf s (minuteIn s r) (figuresIn t r) ≡ t)
-  -- And no other: after a correction that was accepted the sheet passes, is s but for the row, and has f there.
+  -- And no other: after a correction that was accepted the sheet is one of these, with f in the row, and holds bytes where s does.
   pub no-other : (f : Figures) → correctionOf s (minuteIn s r) f ≡ 0
-      → let t = correctedOf s (minuteIn s r) f in Passes t × ButFor s t r × (figuresIn t r ≡ f)
+      → let t = correctedOf s (minuteIn s r) f in Passes t × ButFor s t r × (figuresIn t r ≡ f) × (Bytes s → Bytes t)
   -- The row keeps its minute, accepted or refused.
   pub keeps-minute : (f : Figures) → minuteIn (correctedOf s (minuteIn s r) f) r ≡ minuteIn s r
   -- What `putIn` holds, of figures that are refused too.
