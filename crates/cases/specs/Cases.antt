@@ -5,7 +5,9 @@ use lib.IntN.{ℤ, pos, negℤ, _-ℤ_}
 use Rattle.figures.specs.Nearest.{withSign, nearest}
 use Rattle.figures.specs.Between.{between}
 use Rattle.steps.specs.Steps.{qOf, sizeOfX, rise, reduction, seconds, perSecond}
-use Rattle.rows.specs.Rows.{latitudeFault}
+use Rattle.contents.specs.declared.Verdict.{Verdict}
+use Rattle.bodies.specs.Check.{checkOf}
+use Rattle.tables.specs.Figures.{mAt}
 use Rattle.forward.specs.declared.Plane.{Plane}
 use Rattle.inverse.specs.declared.Geographic.{Geographic}
 use Rattle.convert.specs.Conversions.{geographicToPlane, planeToGeographic}
@@ -23,6 +25,10 @@ onPlane r = pos (r .number) ∷ r .x ∷ r .y ∷ []
 
 abbrev pub onEarth : Geographic → List ℤ
 onEarth r = pos (r .number) ∷ r .latitude ∷ r .longitude ∷ []
+
+-- The check's answer, "number, kind, row", before what else is told.
+abbrev pub told : Verdict → List ℤ → List ℤ
+told v rest = pos (v .number) ∷ pos (v .kind) ∷ pos (v .row) ∷ rest
 
 -- Document 000, Harvey: at 38°26′17.646″ y0 341,647.98, H 79.567780, between the rows 38°26′ and 38°27′.
 unfoldable pub harvey : Case
@@ -70,24 +76,37 @@ naper = record {
   printed = pos 7_316 ∷ pos 7_315 ∷ [];
 }
 
--- Document 003's latitude rows 20°48′ and 20°49′, with dh as ΔH of the first.
-unfoldable pub from2048 : ℤ → List ℕ
-from2048 dh =
+-- Document 003, zone 2, cut to the rows 20°47′ to 20°49′ and the first two rows of each other table, with dh as ΔH of row 20°48′.
+unfoldable pub from2047 : ℤ → List ℕ
+from2047 dh =
     bytesOf (
+    pos 6 ∷
+    pos 1 ∷ pos 19 ∷ pos 1 ∷
+    pos 2 ∷ pos 21 ∷ pos 3 ∷
+    pos 3 ∷ pos 45 ∷ pos 2 ∷
+    pos 4 ∷ pos 49 ∷ pos 2 ∷
+    pos 5 ∷ pos 53 ∷ pos 2 ∷
+    pos 6 ∷ pos 55 ∷ pos 2 ∷
+    pos 564_000_000 ∷ pos 50_000_000 ∷
+    pos 1_247 ∷ pos 16_343_781 ∷ pos 10_089_033 ∷ pos 94_889_553 ∷ pos 17_367 ∷ pos 816_227 ∷ pos 893 ∷ negℤ (pos 934) ∷
     pos 1_248 ∷ pos 16_949_123 ∷ pos 10_089_050 ∷ pos 94_879_133 ∷ dh ∷ pos 816_763 ∷ pos 893 ∷ negℤ (pos 933) ∷
-    pos 1_249 ∷ pos 17_554_466 ∷ pos 10_089_067 ∷ pos 94_868_706 ∷ pos 17_392 ∷ pos 817_299 ∷ pos 892 ∷ negℤ (pos 933) ∷
+    pos 1_249 ∷ pos 17_554_466 ∷ pos 0 ∷ pos 94_868_706 ∷ pos 0 ∷ pos 817_299 ∷ pos 0 ∷ negℤ (pos 933) ∷
+    pos 0 ∷ pos 0 ∷
+    pos 269 ∷ pos 0 ∷
+    pos 88_503 ∷ pos 36_512 ∷
+    pos 89_810 ∷ pos 37_052 ∷
+    pos 0 ∷
+    pos 0 ∷
+    pos 9_999_667 ∷
+    pos 9_999_667 ∷
     []
     )
 
--- Document 003, row 20°48′: H 94.879133, next 94.868706, so ΔH is 173.78 of its millionths, and the row has no fault. The copy reads 173.71: number 9.
+-- Document 003, row 20°48′: H 94.879133, next 94.868706, so ΔH is 173.78 of its millionths, and the whole check passes, 0 0 0. The copy reads 173.71: number 9, in kind 2's row 1.
 unfoldable pub row2048 : Case
 row2048 = record {
-  worked =
-      perSecond 100 (pos 94_879_133 -ℤ pos 94_868_706) ∷
-      pos (latitudeFault (from2048 (pos 17_378)) 2 0) ∷
-      pos (latitudeFault (from2048 (pos 17_371)) 2 0) ∷
-      [];
-  printed = pos 17_378 ∷ pos 0 ∷ pos 9 ∷ [];
+  worked = perSecond 100 (pos 94_879_133 -ℤ pos 94_868_706) ∷ told (checkOf (from2047 (pos 17_378))) (told (checkOf (from2047 (pos 17_371))) []);
+  printed = pos 17_378 ∷ pos 0 ∷ pos 0 ∷ pos 0 ∷ pos 9 ∷ pos 2 ∷ pos 1 ∷ [];
 }
 
 -- At 20°48′30″ the rows give H 94.873920; the misprinted per-second column would give 94.873922.
@@ -97,10 +116,10 @@ h2048 = record {
   printed = pos 94_873_920 ∷ [];
 }
 
--- Case sheet, y 50,000 ft: M 0.0038423, a half between 0.0038150 at 0 ft and 0.0038695 at 100,000 ft.
+-- Case sheet, y 50,000 ft: M 0.0038423, read of its bytes: a half between 0.0038150 at 0 ft and 0.0038695 at 100,000 ft.
 unfoldable pub halfM : Case
 halfM = record {
-  worked = between (pos 38_150) (pos 38_695) 5_000_000 10_000_000 ∷ [];
+  worked = pos (mAt caseSheet 5_000_000) ∷ [];
   printed = pos 38_423 ∷ [];
 }
 

@@ -10,3 +10,6 @@ pub mod Stands
 pub mod SameAnswers
 pub mod AllSame
 pub mod Minutes
+pub mod OwnBytes
+pub mod OnlyRow
+pub mod StillBytes

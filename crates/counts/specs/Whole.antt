@@ -28,3 +28,13 @@ unfoldable pub wholeOf : Float → Whole
 wholeOf nan = No
 wholeOf (inf s) = No
 wholeOf (fin s m e) = wholeNat s (m * up e) (down e)
+
+-- "Where an answer is an enum, a definition gives this paper's number and values for each of its cases": a count is "0 accepted" with its value; no count is 15, "an f64 that is not a whole
+-- number within ±2,147,483,647", with zero.
+abbrev pub numberOf : Whole → ℕ
+numberOf (Count n) = 0
+numberOf No = 15
+
+abbrev pub valueOf : Whole → ℤ
+valueOf (Count n) = n
+valueOf No = pos 0

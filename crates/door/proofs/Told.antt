@@ -97,6 +97,13 @@ module _ {R : Type 0} (f : ℤ → ℤ → R) (number : R → ℕ) (one two : R 
     second-none = λ p e. fifteen (door p) (before (countsOf p) (λ a b. tell (f a b)) (sym (second-none _ _ e)));
   }
 
+-- a door that tells what one conversion answers tells what another does that always answers the same
+pub tells-as : {R : Type 0} (door : Point → Answer) (f g : ℤ → ℤ → R) (number : R → ℕ) (one two : R → ℤ) → ((a b : ℤ) → f a b ≡ g a b)
+    → Tells door (λ a b. number (f a b)) (λ a b. one (f a b)) (λ a b. two (f a b))
+    → Tells door (λ a b. number (g a b)) (λ a b. one (g a b)) (λ a b. two (g a b))
+tells-as door f g number one two same t =
+    record { counts = λ p a b e h. rw (← same a b) (t .counts p a b e h); first-none = t .first-none; second-none = t .second-none }
+
 module _ (s : List ℕ) where
   pub plane-tells : Tells (toPlane s) (λ a b. geographicToPlane s a b .number) (λ a b. geographicToPlane s a b .x) (λ a b. geographicToPlane s a b .y)
   plane-tells = tells (geographicToPlane s) (λ r. r .number) (λ r. r .x) (λ r. r .y) (plane-zeros s)

@@ -11,7 +11,7 @@ use Rattle.door.specs.declared.Pair.{Pair}
 use Rattle.door.specs.declared.Pair.the-variants as Pair
 use Rattle.door.specs.declared.Answer.{Answer}
 use Rattle.door.specs.declared.Answer.the-variants.{Counts, Refused}
-use Rattle.counts.specs.Whole.{float}
+use Rattle.counts.specs.Whole.{float, numberOf, valueOf}
 use Rattle.door.specs.Door.{both, answerOf, doorOf}
 
 -- ---- a pair
@@ -47,6 +47,13 @@ pub same-door : (p : Pair) (f g : ℤ → ℤ → Answer) → ((a b : ℤ) → f
 unfolding doorOf
 same-door Pair.No f g e = refl
 same-door (Pair.Of a b) f g e = e a b
+
+-- of two that answer the same to the counts that the floats are, where both are counts
+pub same-counts : (v w : Whole) (f g : ℤ → ℤ → Answer) → (numberOf v ≡ 0 → numberOf w ≡ 0 → f (valueOf v) (valueOf w) ≡ g (valueOf v) (valueOf w)) → doorOf (both v w) f ≡ doorOf (both v w) g
+unfolding doorOf both
+same-counts Whole.No w f g e = refl
+same-counts (Whole.Count a) Whole.No f g e = refl
+same-counts (Whole.Count a) (Whole.Count b) f g e = e refl refl
 
 -- a and b as the conversion reads them from their bits are a′ and b′, and `tell` gives the tools what it answers
 pub after : {R : Type 0} (f : ℤ → ℤ → R) (tell : R → Answer) (p : Pair) {a b a′ b′ : ℤ} {r : R} (answer : Answer)

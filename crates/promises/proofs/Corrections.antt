@@ -44,9 +44,14 @@ use Rattle.touched.specs.Touched.{touch, noTouch, hasMinute, rowNamed, nearRow,
 use Rattle.touched.proofs.Beside.{two-rows}
 use Rattle.batch.specs.Batch.{pairs, pointAt, wordsOf, taken, batchOf, answersOf}
 use Rattle.batch.proofs.Written.{answer-on-pass, memory-on-pass, point-words}
+use Rattle.door.specs.Door as door
 use Rattle.door.specs.Door.{countsOf, planeAnswer, geographicAnswer, gridAnswer, toPlane, toGeographic, toGrid}
-use Rattle.door.proofs.Ways.{same-door}
-use Rattle.promises.specs.Corrections.{Passes, Word, Words, putIn, FarLatitude, Corrects, Afresh, Local, Untouched, Demand3, EachRow}
+use Rattle.door.proofs.Ways.{same-door, same-counts}
+use Rattle.door.proofs.Told.{tells-as, plane-tells, geographic-tells, grid-tells}
+use Rattle.door.specs.declared.Answer.{Answer}
+use Rattle.door.specs.declared.Point.{Point}
+use Rattle.counts.specs.Whole.{wholeOf}
+use Rattle.promises.specs.Corrections.{Passes, Word, Words, putIn, FarLatitude, SameTold, Corrects, Afresh, Local, Untouched, Demand3, EachRow}
 use Rattle.corrected.proofs.WithRow.{body-long, rows-stay, body-stays, latitude-body}
 use Rattle.corrected.proofs.OtherBytes.{other-bytes}
 use Rattle.corrected.proofs.WholeCheck.{passes-with, must-range, must-before, must-after}
@@ -202,6 +207,9 @@ module _ (s : List ℕ) (passes : Passes s) (minute : ℤ) (f : Figures) where
           door-plane = λ p. ap (λ (u : List ℕ). toPlane u p) (writes accepted) ∙ same-door (countsOf p) _ _ (λ north west. ap planeAnswer (plane-steps t ok′ north west));
           door-geographic = λ p. ap (λ (u : List ℕ). toGeographic u p) (writes accepted) ∙ same-door (countsOf p) _ _ (λ x y. ap geographicAnswer (earth-steps t ok′ x y));
           door-grid = λ p. ap (λ (u : List ℕ). toGrid u p) (writes accepted) ∙ same-door (countsOf p) _ _ (λ x y. ap gridAnswer (grid-steps t ok′ x y));
+          told-plane = rw (writes accepted) (tells-as (toPlane t) (geographicToPlane t) (forwardOf t) (λ a. a .number) (λ a. a .x) (λ a. a .y) (plane-steps t ok′) (plane-tells t));
+          told-geographic = rw (writes accepted) (tells-as (toGeographic t) (planeToGeographic t) (inverseOf t) (λ a. a .number) (λ a. a .latitude) (λ a. a .longitude) (earth-steps t ok′) (geographic-tells t));
+          told-grid = rw (writes accepted) (tells-as (toGrid t) (convergenceAndScale t) (gridOf t) (λ a. a .number) (λ a. a .convergence) (λ a. a .scale) (grid-steps t ok′) (grid-tells t));
         }
 
     -- ---- the answers that stay
@@ -231,13 +239,23 @@ module _ (s : List ℕ) (passes : Passes s) (minute : ℤ) (f : Figures) where
             point-words t ok′ points old e i k l h ∙ ap (λ a. getD (wordsOf a) k (pos 0)) same ∙ sym (point-words s ok points old e i k l h)
         pick false e = rw (memory-on-pass t ok′ points old, memory-on-pass s ok points old, e)
 
+    grid-stays : (x y : ℤ) → convergenceAndScale (correctedOf s minute f) x y ≡ convergenceAndScale s x y
+    grid-stays x y = ap (λ (u : List ℕ). convergenceAndScale u x y) (writes accepted) ∙ grid-steps t ok′ x y ∙ grid-same s t r beside x y ∙ sym (grid-steps s ok x y)
+
+    -- what the door tells
+    same-told : {a b : Answer} → a ≡ b → SameTold a b
+    same-told e = record { whole = e; numbered = ap door.numberOf e; one = ap door.firstOf e; two = ap door.secondOf e }
+
     pub locally : Local s minute f
     locally =
         record {
           forward = λ north west far. plane-stays north west (λ k l. far);
           inverse = λ x y far. earth-stays x y (λ k l. inl (far k l));
-          grid = λ x y. ap (λ (u : List ℕ). convergenceAndScale u x y) (writes accepted) ∙ grid-steps t ok′ x y ∙ grid-same s t r beside x y ∙ sym (grid-steps s ok x y);
+          grid = grid-stays;
           batch = batch-stays;
+          door-plane = λ p far. same-told (same-counts (wholeOf (p .first)) (wholeOf (p .second)) _ _ (λ e h. ap planeAnswer (plane-stays _ _ (λ k l. far e h))));
+          door-geographic = λ p far. same-told (same-counts (wholeOf (p .first)) (wholeOf (p .second)) _ _ (λ e h. ap geographicAnswer (earth-stays _ _ (λ k l. inl (far e h k l)))));
+          door-grid = λ p. same-told (same-door (countsOf p) _ _ (λ x y. ap gridAnswer (grid-stays x y)));
         }
 
     -- ---- what `touched` says

@@ -2,7 +2,9 @@
 pub mod NearestIsNearest
 pub mod OneAnswer
 pub mod AnswersFit
+pub mod Counts
 pub mod SizesAndSigns
 pub mod Corrections
+pub mod OneRow
 pub mod OneAnswerForC
 pub mod Redo

@@ -25,7 +25,11 @@ use Rattle.correct.specs.Correction.{correctionOf, withRow, correctedOf}
 use Rattle.touched.specs.Touched.{touch, hasMinute, rowNamed, geographicTouched, planeTouched}
 use Rattle.batch.specs.Batch.{pairs, pointAt, answered, afterPairs, taken, batched, batchOf, answersOf}
 use Rattle.door.specs.declared.Point.{Point}
-use Rattle.door.specs.Door.{countsOf, doorOf, planeAnswer, geographicAnswer, gridAnswer, toPlane, toGeographic, toGrid}
+use Rattle.counts.specs.Whole.{wholeOf}
+use Rattle.counts.specs.Whole as counts
+use Rattle.door.specs.declared.Answer.{Answer}
+use Rattle.door.specs.Door.{numberOf, firstOf, secondOf, countsOf, doorOf, planeAnswer, geographicAnswer, gridAnswer, toPlane, toGeographic, toGrid}
+use Rattle.door.specs.Meaning.{Tells}
 
 -- "A pass is 0 0 0."
 abbrev pub Passes : List ℕ → Type 0
@@ -54,6 +58,17 @@ FarNorthing s r reduced = ((0 < r) × (leZ reduced (y0Of s (r - 1)) ≡ true)) �
 abbrev pub FarPlane : List ℕ → ℤ → ℤ → ℤ → Type 0
 FarPlane s minute x y =
     eastingKnown s (xPrime s x) ≡ true → northingKnown s y ≡ true → FarNorthing s (rowNamed s minute) (reducedNorthing s (natAbs (xPrime s x)) y)
+
+-- The same of a tools' point: of the two counts that it is, where both floats are counts. Of any other the door tells 15, whatever the sheet.
+abbrev pub OfCounts : Point → (ℤ → ℤ → Type 0) → Type 0
+OfCounts p Far = counts.numberOf (wholeOf (p .first)) ≡ 0 → counts.numberOf (wholeOf (p .second)) ≡ 0 → Far (counts.valueOf (wholeOf (p .first))) (counts.valueOf (wholeOf (p .second)))
+
+-- Two answers of the door are the same, and so are the paper's number and values of them.
+pub record SameTold (a b : Answer) : Type 0 where
+  pub whole : a ≡ b
+  pub numbered : numberOf a ≡ numberOf b
+  pub one : firstOf a ≡ firstOf b
+  pub two : secondOf a ≡ secondOf b
 
 -- ---- the correction itself
 pub record Corrects (s : List ℕ) (minute : ℤ) (f : Figures) : Type 0 where
@@ -88,6 +103,10 @@ pub record Afresh (s : List ℕ) (minute : ℤ) (f : Figures) : Type 0 where
   pub door-plane : (p : Point) → toPlane (correctedOf s minute f) p ≡ doorOf (countsOf p) (λ north west. planeAnswer (forwardOf (putIn s minute f) north west))
   pub door-geographic : (p : Point) → toGeographic (correctedOf s minute f) p ≡ doorOf (countsOf p) (λ x y. geographicAnswer (inverseOf (putIn s minute f) x y))
   pub door-grid : (p : Point) → toGrid (correctedOf s minute f) p ≡ doorOf (countsOf p) (λ x y. gridAnswer (gridOf (putIn s minute f) x y))
+  -- In the paper's number and values of each case of its answer: those of the steps, where both floats are counts, else 15 and zeros.
+  pub told-plane : let steps = forwardOf (putIn s minute f) in Tells (toPlane (correctedOf s minute f)) (λ north west. steps north west .number) (λ north west. steps north west .x) (λ north west. steps north west .y)
+  pub told-geographic : let steps = inverseOf (putIn s minute f) in Tells (toGeographic (correctedOf s minute f)) (λ x y. steps x y .number) (λ x y. steps x y .latitude) (λ x y. steps x y .longitude)
+  pub told-grid : let steps = gridOf (putIn s minute f) in Tells (toGrid (correctedOf s minute f)) (λ x y. steps x y .number) (λ x y. steps x y .convergence) (λ x y. steps x y .scale)
 
 pub record Local (s : List ℕ) (minute : ℤ) (f : Figures) : Type 0 where
   -- "no point outside the two intervals beside that row changes": the whole answer, refusals included.
@@ -98,6 +117,10 @@ pub record Local (s : List ℕ) (minute : ℤ) (f : Figures) : Type 0 where
   -- A batch's three words for a point i outside the two intervals: word k of them is as before.
   pub batch : (points old : List ℤ) (i k : ℕ) → i < pairs points → k < 3 → FarLatitude minute (getD points (2 * i) (pos 0))
       → getD (answersOf (correctedOf s minute f) points old) (3 * i + k) (pos 0) ≡ getD (answersOf s points old) (3 * i + k) (pos 0)
+  -- And what the tools' door tells.
+  pub door-plane : (p : Point) → OfCounts p (λ north west. FarLatitude minute north) → SameTold (toPlane (correctedOf s minute f) p) (toPlane s p)
+  pub door-geographic : (p : Point) → OfCounts p (FarPlane s minute) → SameTold (toGeographic (correctedOf s minute f) p) (toGeographic s p)
+  pub door-grid : (p : Point) → SameTold (toGrid (correctedOf s minute f) p) (toGrid s p)
 
 -- "Which of my four thousand points do I redo?" Where the answer is no, the point's answer is as before; and the question may be put to the old sheet or to the new.
 pub record Untouched (s : List ℕ) (minute : ℤ) (f : Figures) : Type 0 where

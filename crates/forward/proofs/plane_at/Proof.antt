@@ -1,6 +1,7 @@
 -- `forward::plane_at` meets its contract. Assumes nothing.
 use mathlib.Core.Path.{_≡_, ap, _∙_}
 use Prim.Native.Nat.{_-_, _*_, _≤_}
+use native.Mathlib.Omega.{arith}
 use denote.Ref.{now}
 use mir.Syntax.{w32, w64}
 use mir.Val.{toZ, ofZ}
@@ -62,15 +63,16 @@ c-at-requires c κs =
 b-at-requires : tie.Need-b-at-requires
 b-at-requires c κs =
     let p = c .before .before .before .before .before .pre in
-    (p .0, p .1, size-reach (c .before))
+    (p .0, p .1, omega (arith, size-reach (c .before)))
 
 x-of-requires : tie.Need-x-of-requires
 x-of-requires c κs =
     let p = c .before .before .before .before .before .before .pre in
     let distance = c .before .before .before .before in
     let t = size-is (distance .from-first .ok) (distance-is distance) (latitude-reach _ _ (p .2)) in
+    let reach = size-reach (c .before .before) in
     let size = c .before .before .size .ensures in
-    (p .0, p .1, rw t (latitude-reach _ _ (p .2) .high), rw (l-is (c .before .before .before)) (longitude-reach _ _ (p .3)), bits-is (c .b-at .ok) ∙ c .b-at .ensures .0 ∙ ap (bAt _) size)
+    (p .0, p .1, rw t (latitude-reach _ _ (p .2) .high), omega (arith, reach, size), bits-is (c .b-at .ok) ∙ c .b-at .ensures .0 ∙ ap (bAt _) (omega (arith, size)))
 
 y-of-requires : tie.Need-y-of-requires
 y-of-requires c κs =
