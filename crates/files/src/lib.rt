@@ -24,6 +24,16 @@ pub fn tell(text: &[u8]) -> bool {
     false
 }
 
+// Whether standard output is open to be written to.
+pub fn is_open() -> bool {
+    let none = [0u8; 1];
+    if libc::write(STDOUT_FILENO, &none[0..0]) < 0 {
+        os::fail(b"cannot write standard output");
+        return false;
+    }
+    true
+}
+
 // Writes a text to standard error.
 pub fn say(text: &[u8]) {
     io::write_all(STDERR_FILENO, text);
