@@ -7,6 +7,9 @@ use native.Mathlib.Nat.{div-add-mod'}
 use native.Mathlib.Omega.{arith}
 use borrow.Author.Tests.{not-true, not-false}
 use lib.IntN.{ℤ, pos, natAbs}
+use mir.Syntax.{w32}
+use mir.Val.{toZ}
+use Rattle.figures.proofs.Holds.{held-size}
 use Rattle.words.proofs.Refusals.{is, is-not}
 use Rattle.bodies.specs.Check.{checkOf}
 use Rattle.touched.specs.declared.Touch.{Touch}
@@ -55,12 +58,14 @@ not-differing differs t h = rw (not-true differs h)
 pub where-differing : (differs t r : Bool) → not differs ≡ false → r ≡ t → r ≡ differs && t
 where-differing differs t r h e = e ∙ rw (not-false differs h)
 
--- ---- the two minutes, on the sheet u
-pub at-two : (s t u : List ℕ) → checkOf s .number ≡ 0 → checkOf u .number ≡ 0 → (l : Line) (m : ℕ) → m ≡ lowerMinute u l → (low high : ℤ) → low ≡ pos m → high ≡ pos (m + 1)
-    → (d e a b : Bool) → d ≡ isDiffering s t low → a ≡ d && touches u l low → e ≡ isDiffering s t high → b ≡ e && touches u l high
+-- ---- the two minutes, on the sheet u; m is the lower
+pub at-two : (s t u : List ℕ) → checkOf s .number ≡ 0 → checkOf u .number ≡ 0 → (l : Line) (m : ℕ) → (m ≡ lowerMinute u l) × (m ≤ 40_000)
+    → (d e a b : Bool) → d ≡ isDiffering s t (toZ w32 m) → a ≡ d && touches u l (toZ w32 m) → e ≡ isDiffering s t (toZ w32 (m + 1)) → b ≡ e && touches u l (toZ w32 (m + 1))
     → (a || b) ≡ anyOf (touches u l) (differingRows s t)
-at-two s t u ok own l m lower low high p q d e a b f g h k =
-    rw (g, k, f, h, p, q, lower) (one-of-two s t ok (touches u l) (pos (lowerMinute u l)) (pos (lowerMinute u l + 1)) (only-two u own l))
+at-two s t u ok own l m lower d e a b f g h k =
+    let low : toZ w32 m ≡ pos m = held-size w32 {B = 40_000} (lower .1) tt .is in
+    let high : toZ w32 (m + 1) ≡ pos (m + 1) = held-size w32 {n = m + 1} {B = 40_001} (omega (arith, lower .1)) tt .is in
+    rw (g, k, f, h, low, high, lower .0) (one-of-two s t ok (touches u l) (pos (lowerMinute u l)) (pos (lowerMinute u l + 1)) (only-two u own l))
 
 -- ---- on one sheet or the other
 or-swap : (a b c d : Bool) → (a || b) || (c || d) ≡ (a || c) || (b || d)

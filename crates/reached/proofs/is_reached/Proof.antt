@@ -11,7 +11,7 @@ is-reached-on-requires-2 : tie.Need-is-reached-on-requires-2
 is-reached-on-requires-2 c κs = search needs
 
 returns : tie.Need-returns
-returns c = on-either _ _ _ _ _ (c .before .is-reached-on .ensures) (c .is-reached-on2 .ensures)
+returns c = search (on-either, needs)
 
 pub is-reached-spec : {M : Type 1} → statement M
 is-reached-spec = tie.close (tie.spec is-reached-on-requires is-reached-on-requires-2 returns)

@@ -1,8 +1,4 @@
 -- `reached::is_reached_on` meets its contract. Assumes nothing.
-use Prim.Native.Nat.{_+_}
-use native.Mathlib.Omega.{arith}
-use mir.Syntax.{w32}
-use Rattle.figures.proofs.Holds.{held-size}
 use Rattle.reached.proofs.Asking.{at-two}
 use borrow.Author.Needs.{needs}
 use Rattle.reached.proofs.is_reached_on.Statement.{statement}
@@ -33,13 +29,7 @@ is-touched-where-requires-2 : tie.Need-is-touched-where-requires-2
 is-touched-where-requires-2 c κs = search needs
 
 returns : tie.Need-returns
-returns c =
-    let one = c .before .before in
-    let found = one .before .before .lower-minute in
-    let p = one .before .before .before .before .before .before .pre in
-    let low = held-size w32 {n = found .result} {B = 40_000} (found .ensures .1) tt .is in
-    let high = held-size w32 {n = found .result + 1} {B = 40_001} (omega (arith, found .ensures .1)) tt .is in
-    at-two _ _ _ (p .0) (p .4) _ _ (found .ensures .0) _ _ low high _ _ _ _ (one .before .differs-at .ensures) (one .is-touched-where .ensures) (c .before .differs-at2 .ensures) (c .is-touched-where2 .ensures)
+returns c = search (at-two, needs)
 
 pub is-reached-on-spec : {M : Type 1} → statement M
 is-reached-on-spec =

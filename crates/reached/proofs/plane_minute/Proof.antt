@@ -59,10 +59,12 @@ returns-2 c = (go _ _ _ _ _ (easting-known-is (c .before .before .before)) (c .b
 returns-3 : tie.Need-returns-3
 unfolding planeMinute
 returns-3 c =
-    let found = c .before .before in
-    (go _ _ _ _ _ (easting-known-is (found .before .before .before .before .before)) (found .before .before .before .before .if1 .left)
-    (go _ _ _ _ _ (northing-is (found .before .before .before)) (found .before .before .if2 .left)
-    (rw (c .before .first-minute .ensures .0, c .row-below .ensures .0, reduced-is found))), omega (arith, sum-most c))
+    let found = c .before .before in (
+      go _ _ _ _ _ (easting-known-is (found .before .before .before .before .before)) (found .before .before .before .before .if1 .left)
+          (go _ _ _ _ _ (northing-is (found .before .before .before)) (found .before .before .if2 .left)
+          (rw (c .before .first-minute .ensures .0, c .row-below .ensures .0, reduced-is found))),
+      omega (arith, sum-most c),
+    )
 
 x-prime-requires : tie.Need-x-prime-requires
 x-prime-requires c κs = search needs
