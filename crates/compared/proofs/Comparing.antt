@@ -1,56 +1,18 @@
 -- A line compared: each test of it, and what is written. Assumes nothing.
-use mathlib.Core.Path.{_≡_, refl, sym, ap, _∙_}
-use mathlib.Core.Bool.{Bool, true, false, not, _&&_, _||_}
-use mathlib.Core.List.{List, [], _∷_}
-use Prim.Native.Nat.{ℕ, _+_, _<_, _≤_}
-use native.Mathlib.Numerals.{add-one}
+use mathlib.Core.Path.{_≡_, refl}
+use mathlib.Core.Bool.{Bool, true, false, not, _&&_}
+use mathlib.Core.List.{List, []}
+use Prim.Native.Nat.{ℕ}
 use native.Mathlib.Omega.{arith}
 use borrow.Author.Tests.{not-true, not-false, eqb-true, eq-eqb}
 use lib.Dec.{eqb}
-use lib.IntN.{ℤ, pos}
-use lib.ListN.{length, getD, drop, drop-of-length-le}
-use lib.Seq.{drop-cons}
-use Rattle.words.proofs.Refusals.{is, is-not}
 use Rattle.rules.specs.Limits.{sameAs}
 use Rattle.rules.proofs.Ranges.{same-true, same-self}
-use Rattle.touched.specs.declared.Touch.{Touch}
-use Rattle.touched.specs.Touched.{geographicTouched, planeTouched}
 use Rattle.decimal.specs.Writing.{Wrote}
 use Rattle.asked.specs.declared.Line.{Line}
 use Rattle.lines.specs.declared.Values.{Values}
 use Rattle.lines.specs.Lines.{valuesOf}
-use Rattle.compared.specs.Compared.{sameValues, changes, touches, eitherTouches, reaches, changeLine, changeText, comparedText}
-
--- ---- whether a correction may touch it
-module _ (s : List ℕ) (l : Line) (minute m a b : ℤ) (e : m ≡ minute) (x : a ≡ l .first) (y : b ≡ l .second) where
-  pub forward-touches : (r : Touch) → l .form ≡ 71 → r ≡ geographicTouched s m a b → r .touched ≡ touches s l minute
-  unfolding touches
-  forward-touches r f h = is (l .form) 71 _ _ _ f (rw (h, e, x, y))
-
-  pub inverse-touches : (r : Touch) → (l .form ≡ 71 → ⊥) → l .form ≡ 80 → r ≡ planeTouched s m a b → r .touched ≡ touches s l minute
-  unfolding touches
-  inverse-touches r n f h = is-not (l .form) 71 _ _ _ n (is (l .form) 80 _ _ _ f (rw (h, e, x, y)))
-
-pub none-touches : (s : List ℕ) (l : Line) (minute : ℤ) → (l .form ≡ 71 → ⊥) → (l .form ≡ 80 → ⊥) → false ≡ touches s l minute
-unfolding touches
-none-touches s l minute n m = is-not (l .form) 71 _ _ _ n (is-not (l .form) 80 _ _ _ m refl)
-
--- ---- some of the minutes: those from i on give the same answer
-module _ (s t : List ℕ) (l : Line) (minutes : List ℤ) (i : ℕ) (h : reaches s t l minutes ≡ reaches s t l (drop i minutes)) where
-  module _ (k : i < length minutes) (m : ℤ) (e : m ≡ getD minutes i (pos 0)) (r : Bool) (q : r ≡ eitherTouches s t l m) where
-    front : reaches s t l (drop i minutes) ≡ r || reaches s t l (drop (i + 1) minutes)
-    unfolding reaches
-    front = ap (reaches s t l) (drop-cons minutes i (pos 0) k) ∙ rw (add-one i, q, e)
-
-    pub reach-here : r ≡ true → true ≡ reaches s t l minutes
-    reach-here w = sym (h ∙ front ∙ rw w)
-
-    pub reach-on : r ≡ false → reaches s t l minutes ≡ reaches s t l (drop (i + 1) minutes)
-    reach-on w = h ∙ front ∙ rw w
-
-  pub reach-end : length minutes ≤ i → false ≡ reaches s t l minutes
-  unfolding reaches
-  reach-end k = sym (h ∙ ap (reaches s t l) (drop-of-length-le minutes {i = i} k))
+use Rattle.compared.specs.Compared.{sameValues, changes, changeLine, changeText, comparedText}
 
 -- ---- what is written
 module _ (n : ℕ) (v w : Values) (changed : Bool) where

@@ -1,12 +1,9 @@
 -- One line of the points program, asked of an old sheet, s, and of a new one, t, after a correction: "which points do I redo?". l is what the line asks, n its number in the input.
-use mathlib.Core.Bool.{Bool, false, not, cond, _&&_, _||_}
-use mathlib.Core.List.{List, [], _∷_, _++_}
+use mathlib.Core.Bool.{Bool, not, cond, _&&_}
+use mathlib.Core.List.{List, [], _++_}
 use Prim.Native.Nat.{ℕ}
 use lib.Dec.{eqb}
-use lib.IntN.{ℤ}
-use Rattle.words.specs.Ladder.{whereIs}
 use Rattle.rules.specs.Limits.{sameAs}
-use Rattle.touched.specs.Touched.{geographicTouched, planeTouched}
 use Rattle.decimal.specs.Writing.{sizeText, numberText}
 use Rattle.asked.specs.declared.Line.{Line}
 use Rattle.lines.specs.declared.Values.{Values}
@@ -20,23 +17,6 @@ sameValues v w = eqb (v .number) (w .number) && sameAs (v .first) (w .first) && 
 -- The line is answered otherwise on the new sheet: another number, or another value.
 unfoldable pub changes : List ℕ → List ℕ → Line → Bool
 changes s t l = not (sameValues (valuesOf s l) (valuesOf t l))
-
--- ---- whether it might
--- A correction of the minute's row may change what the sheet answers: G by its latitude, P by its reduced northing. No latitude row moves convergence and scale, nor 18.
-unfoldable pub touches : List ℕ → Line → ℤ → Bool
-touches s l minute =
-    whereIs (l .form) 71 (geographicTouched s minute (l .first) (l .second) .touched)
-    (whereIs (l .form) 80 (planeTouched s minute (l .first) (l .second) .touched)
-    false)
-
--- The same, asked of both sheets. Of one corrected row both say the same; where more rows differ one sheet may say yes and the other no.
-abbrev pub eitherTouches : List ℕ → List ℕ → Line → ℤ → Bool
-eitherTouches s t l minute = touches s l minute || touches t l minute
-
--- Some of the minutes may touch it.
-unfoldable pub reaches : List ℕ → List ℕ → Line → List ℤ → Bool
-reaches s t l [] = false
-reaches s t l (minute ∷ minutes) = eitherTouches s t l minute || reaches s t l minutes
 
 -- ---- what is printed
 -- A number and two values, with a blank after each.

@@ -1,8 +1,5 @@
 // One line of the points program, asked of an old sheet and of a new one.
 use asked::BLANK;
-use asked::FORWARD;
-use asked::INVERSE;
-use asked::Line;
 use entries::Places;
 use lines::Values;
 ghost use mathlib.Core.Path.{_≡_};
@@ -12,9 +9,17 @@ ghost use Rattle.entries.specs.Entries.{placesOf};
 ghost use Rattle.bodies.specs.Check.{checkOf};
 ghost use Rattle.decimal.specs.Writing.{Wrote};
 ghost use Rattle.asked.specs.Asked.{isForm, lineOf};
-ghost use Rattle.compared.specs.Compared.{sameValues, changes, touches, eitherTouches, reaches, valuesText, changeLine, changeText, comparedText, changeRoom};
+ghost use Rattle.differing.specs.Differing.{differingRows};
+ghost use Rattle.reached.specs.Reached.{reaches};
+ghost use Rattle.compared.specs.Compared.{sameValues, changes, valuesText, changeLine, changeText, comparedText, changeRoom};
 
-// What a line is on two sheets: whether it is of a known form, whether its answer changes, whether some of the minutes may touch it, and the place after what was written.
+// Where each sheet's bodies lie.
+pub struct BothPlaces {
+    pub old: Places,
+    pub new: Places,
+}
+
+// What a line is on two sheets: whether it is of a known form, whether its answer changes, whether the rows in which the sheets differ may touch it, and the place after what was written.
 pub struct Compared {
     pub point: bool,
     pub changed: bool,
@@ -32,46 +37,6 @@ fn same_values(v: Values, w: Values) -> bool
     ensures { λ r. ⌜ r ≡ sameValues v w ⌝ }
 {
     (v.number == w.number) & rules::same_as(v.first, w.first) & rules::same_as(v.second, w.second)
-}
-
-// ---- whether it might
-
-// Whether a correction of the minute's row may change what the sheet answers the line. The sheet is known to pass, with its places.
-fn is_touched(s: &[u8], p: Places, l: Line, minute: i32) -> bool
-    requires { ⌜ (checkOf (now s) .number ≡ 0) × (p ≡ placesOf (now s)) ⌝ }
-    ensures { λ r. ⌜ r ≡ touches (now (s .entry)) l minute ⌝ }
-{
-    let form = l.form;
-    if form == FORWARD {
-        return touched::forward_touched(s, p, minute, l.first, l.second).touched;
-    }
-    if form == INVERSE {
-        return touched::inverse_touched(s, p, minute, l.first, l.second).touched;
-    }
-    false
-}
-
-// The same, asked of both sheets.
-fn is_touched_in_either(old: &[u8], p: Places, new: &[u8], q: Places, l: Line, minute: i32) -> bool
-    requires { ⌜ (checkOf (now old) .number ≡ 0) × (p ≡ placesOf (now old)) × (checkOf (now new) .number ≡ 0) × (q ≡ placesOf (now new)) ⌝ }
-    ensures { λ r. ⌜ r ≡ eitherTouches (now (old .entry)) (now (new .entry)) l minute ⌝ }
-{
-    is_touched(old, p, l, minute) | is_touched(new, q, l, minute)
-}
-
-// Whether some of the minutes may touch the line.
-fn is_reached(old: &[u8], p: Places, new: &[u8], q: Places, l: Line, minutes: &[i32]) -> bool
-    requires { ⌜ (checkOf (now old) .number ≡ 0) × (p ≡ placesOf (now old)) × (checkOf (now new) .number ≡ 0) × (q ≡ placesOf (now new)) ⌝ }
-    ensures { λ r. ⌜ r ≡ reaches (now (old .entry)) (now (new .entry)) l (now (minutes .entry)) ⌝ }
-{
-    let mut i = 0;
-    while i < minutes.len() {
-        if is_touched_in_either(old, p, new, q, l, minutes[i]) {
-            return true;
-        }
-        i += 1;
-    }
-    false
 }
 
 // ---- what is written
@@ -110,30 +75,28 @@ fn put_where(changed: bool, out: &mut [u8], at: usize, n: u64, v: Values, w: Val
 // Line n, asked of both sheets, which are known to pass, with their places: what it is on them, and where its answer changes both answers from `at` on.
 pub fn compare_line(
     old: &[u8],
-    p: Places,
     new: &[u8],
-    q: Places,
-    minutes: &[i32],
+    places: BothPlaces,
     line: &[u8],
     n: u64,
     out: &mut [u8],
     at: usize,
 ) -> Compared
-    requires { ⌜ (checkOf (now old) .number ≡ 0) × (p ≡ placesOf (now old)) × (checkOf (now new) .number ≡ 0) × (q ≡ placesOf (now new)) × (at + changeRoom ≤ length (now out)) ⌝ }
+    requires { ⌜ (checkOf (now old) .number ≡ 0) × (places .old ≡ placesOf (now old)) × (checkOf (now new) .number ≡ 0) × (places .new ≡ placesOf (now new)) × (at + changeRoom ≤ length (now out)) ⌝ }
     ensures point { λ r. ⌜ r .point ≡ isForm (lineOf (now (line .entry)) .form) ⌝ }
     ensures changed { λ r. ⌜ r .changed ≡ changes (now (old .entry)) (now (new .entry)) (lineOf (now (line .entry))) ⌝ }
-    ensures reached { λ r. ⌜ r .reached ≡ reaches (now (old .entry)) (now (new .entry)) (lineOf (now (line .entry))) (now (minutes .entry)) ⌝ }
+    ensures reached { λ r. ⌜ r .reached ≡ reaches (now (old .entry)) (now (new .entry)) (lineOf (now (line .entry))) (differingRows (now (old .entry)) (now (new .entry))) ⌝ }
     ensures text { λ r. ⌜ (r .next ≤ at + changeRoom) × Wrote (now (out .entry)) (now (out .exit)) at (r .next) (comparedText (now (old .entry)) (now (new .entry)) n (lineOf (now (line .entry)))) ⌝ }
 {
     let l = asked::line_of(line);
-    let v = lines::values_of(old, p, l);
-    let w = lines::values_of(new, q, l);
+    let v = lines::values_of(old, places.old, l);
+    let w = lines::values_of(new, places.new, l);
     let changed = !same_values(v, w);
     let next = put_where(changed, out, at, n, v, w);
     Compared {
         point: asked::is_form(l.form),
         changed,
-        reached: is_reached(old, p, new, q, l, minutes),
+        reached: reached::is_reached(old, places.old, new, places.new, l),
         next,
     }
 }

@@ -1,11 +1,8 @@
--- Which latitude rows of an old sheet, s, are otherwise in a new one, t. b and c are their latitude bodies, m the new one's rows; i is a row of the old, counted from 0.
-use mathlib.Core.Path.{_≡_}
-use mathlib.Core.Bool.{Bool, true, not, cond, _&&_}
+-- Which latitude rows of an old sheet, s, are otherwise in a new one, t. b and c are their latitude bodies, of n and m rows; i is a row of the old, counted from 0.
+use mathlib.Core.Bool.{Bool, true, false, not, cond, _&&_, _||_}
 use mathlib.Core.List.{List, [], _∷_, _++_}
-use Prim.Native.Nat.{ℕ, zero, suc, _+_}
+use Prim.Native.Nat.{ℕ, zero, suc}
 use lib.IntN.{ℤ}
-use lib.ListN.{length}
-use lib.Seq.{sets}
 use Rattle.words.specs.Ladder.{need}
 use Rattle.entries.specs.Layout.{latitude}
 use Rattle.entries.specs.Entries.{rowsOf, bodyOf}
@@ -26,6 +23,7 @@ minuteAt b i = rowAt b i .minute
 unfoldable pub rowDiffers : List ℕ → List ℕ → ℕ → ℕ → Bool
 rowDiffers b c m i = need (hasRow c m (minuteAt b i)) true (not (sameFigures (figuresAt b i) (figuresAt c (namedRow c (minuteAt b i)))))
 
+-- ---- all of them
 -- The minute of row i where it differs, else nothing.
 unfoldable pub minuteWhere : List ℕ → List ℕ → ℕ → ℕ → List ℤ
 minuteWhere b c m i = cond (rowDiffers b c m i) (minuteAt b i ∷ []) []
@@ -38,7 +36,16 @@ differing b c m (suc i) = differing b c m i ++ minuteWhere b c m i
 unfoldable pub differingRows : List ℕ → List ℕ → List ℤ
 differingRows s t = differing (bodyOf s latitude) (bodyOf t latitude) (rowsOf t latitude) (rowsOf s latitude)
 
--- What noting minutes leaves: they stand from `at` on, one after another, all else as it was, and the place after them.
-pub record Noted (old new : List ℤ) (at next : ℕ) (minutes : List ℤ) : Type 0 where
-  pub place : next ≡ at + length minutes
-  pub words : new ≡ sets old at minutes
+-- f holds at one of the minutes.
+unfoldable pub anyOf : (ℤ → Bool) → List ℤ → Bool
+anyOf f [] = false
+anyOf f (minute ∷ minutes) = f minute || anyOf f minutes
+
+-- ---- one of them
+-- The old sheet has a row with the minute, and that row differs.
+unfoldable pub differsAt : List ℕ → ℕ → List ℕ → ℕ → ℤ → Bool
+differsAt b n c m minute = hasRow b n minute && rowDiffers b c m (namedRow b minute)
+
+-- The minute is one of `differingRows s t`, where s passes (`proofs/Among.antt`).
+unfoldable pub isDiffering : List ℕ → List ℕ → ℤ → Bool
+isDiffering s t minute = differsAt (bodyOf s latitude) (rowsOf s latitude) (bodyOf t latitude) (rowsOf t latitude) minute

@@ -3,16 +3,12 @@ use entries::Place;
 use entries::Places;
 use rules::Figures;
 ghost use mathlib.Core.Path.{_≡_};
-ghost use mathlib.Core.List.{_∷_, []};
 ghost use Prim.Native.Nat.{_+_, _*_, _<_, _≤_};
 ghost use lib.ListN.{length};
 ghost use Rattle.entries.specs.Layout.{latitude};
 ghost use Rattle.entries.specs.Entries.{rowsOf, bodyOf, placeOf, placesOf};
 ghost use Rattle.bodies.specs.Check.{checkOf};
-ghost use Rattle.differing.specs.Differing.{sameFigures, rowDiffers, minuteWhere, differing, differingRows, Noted};
-
-// The most latitude rows of a sheet, and so the most minutes.
-pub const MOST_MINUTES: usize = 1_200;
+ghost use Rattle.differing.specs.Differing.{sameFigures, rowDiffers, differsAt, isDiffering};
 
 // Whether the four figures are the same.
 fn same_figures(f: Figures, g: Figures) -> bool
@@ -37,69 +33,45 @@ fn row_differs(b: &[u8], i: usize, c: &[u8], m: usize) -> bool
     !same_figures(rows::figures_at(b, i), rows::figures_at(c, j))
 }
 
-// A minute noted at k; the place after it.
-fn put_minute(minutes: &mut [i32], k: usize, minute: i32) -> usize
-    requires { ⌜ k < length (now minutes) ⌝ }
-    ensures { λ r. ⌜ Noted (now (minutes .entry)) (now (minutes .exit)) k r (minute ∷ []) ⌝ }
+// Whether the old latitude body b, of n rows, has a row with the minute, and that row is otherwise in the new one, c, of m rows, or not there.
+fn differs_in(b: &[u8], n: usize, c: &[u8], m: usize, minute: i32) -> bool
+    requires { ⌜ (0 < n) × (32 * n ≤ length (now b)) × (0 < m) × (32 * m ≤ length (now c)) ⌝ }
+    ensures { λ r. ⌜ r ≡ differsAt (now (b .entry)) n (now (c .entry)) m minute ⌝ }
 {
-    minutes[k] = minute;
-    k + 1
-}
-
-// The minute of row i noted at k, where the row differs; the place after it.
-fn note_row(b: &[u8], i: usize, c: &[u8], m: usize, minutes: &mut [i32], k: usize) -> usize
-    requires { ⌜ (32 * i + 32 ≤ length (now b)) × (0 < m) × (32 * m ≤ length (now c)) × (k < length (now minutes)) ⌝ }
-    ensures { λ r. ⌜ (r ≤ k + 1) × Noted (now (minutes .entry)) (now (minutes .exit)) k r (minuteWhere (now (b .entry)) (now (c .entry)) m i) ⌝ }
-{
-    if !row_differs(b, i, c, m) {
-        return k;
+    if !judge::has_row(b, n, minute) {
+        return false;
     }
-    put_minute(minutes, k, words::word(b, 8 * i))
-}
-
-// The minutes of those of the old body's n rows that differ, noted at the front; how many.
-fn note_rows(b: &[u8], n: usize, c: &[u8], m: usize, minutes: &mut [i32]) -> usize
-    requires { ⌜ (32 * n ≤ length (now b)) × (0 < m) × (32 * m ≤ length (now c)) × (n ≤ length (now minutes)) ⌝ }
-    ensures { λ r. ⌜ (r ≤ n) × Noted (now (minutes .entry)) (now (minutes .exit)) 0 r (differing (now (b .entry)) (now (c .entry)) m n) ⌝ }
-{
-    let mut k = 0;
-    let mut i = 0;
-    while i < n {
-        k = note_row(b, i, c, m, minutes, k);
-        i += 1;
-    }
-    k
+    row_differs(b, judge::named_row(b, n, minute), c, m)
 }
 
 // The same beside a new sheet known to pass, whose latitude body is lent on. `place` is that body's.
-fn note_beside(b: &[u8], n: usize, new: &[u8], place: Place, minutes: &mut [i32]) -> usize
-    requires { ⌜ (32 * n ≤ length (now b)) × (checkOf (now new) .number ≡ 0) × (place ≡ placeOf (now new) latitude) × (n ≤ length (now minutes)) ⌝ }
-    ensures { λ r. ⌜ (r ≤ n) × Noted (now (minutes .entry)) (now (minutes .exit)) 0 r (differing (now (b .entry)) (bodyOf (now (new .entry)) latitude) (rowsOf (now (new .entry)) latitude) n) ⌝ }
+fn differs_beside(b: &[u8], n: usize, new: &[u8], place: Place, minute: i32) -> bool
+    requires { ⌜ (0 < n) × (32 * n ≤ length (now b)) × (checkOf (now new) .number ≡ 0) × (place ≡ placeOf (now new) latitude) ⌝ }
+    ensures { λ r. ⌜ r ≡ differsAt (now (b .entry)) n (bodyOf (now (new .entry)) latitude) (rowsOf (now (new .entry)) latitude) minute ⌝ }
 {
     let m = place.rows;
     let w = entries::width_of(entries::LATITUDE);
     let a = 4 * place.start;
     let z = a + 4 * (m * w);
-    note_rows(b, n, &new[a..z], m, minutes)
+    differs_in(b, n, &new[a..z], m, minute)
 }
 
 // The same of an old sheet known to pass, whose latitude body is lent on. `place` is that body's, `other` the new sheet's.
-fn note_sheets(old: &[u8], place: Place, new: &[u8], other: Place, minutes: &mut [i32]) -> usize
-    requires { ⌜ (checkOf (now old) .number ≡ 0) × (place ≡ placeOf (now old) latitude) × (checkOf (now new) .number ≡ 0) × (other ≡ placeOf (now new) latitude) × (1_200 ≤ length (now minutes)) ⌝ }
-    ensures { λ r. ⌜ (r ≤ 1_200) × Noted (now (minutes .entry)) (now (minutes .exit)) 0 r (differingRows (now (old .entry)) (now (new .entry))) ⌝ }
+fn differs_between(old: &[u8], place: Place, new: &[u8], other: Place, minute: i32) -> bool
+    requires { ⌜ (checkOf (now old) .number ≡ 0) × (place ≡ placeOf (now old) latitude) × (checkOf (now new) .number ≡ 0) × (other ≡ placeOf (now new) latitude) ⌝ }
+    ensures { λ r. ⌜ r ≡ isDiffering (now (old .entry)) (now (new .entry)) minute ⌝ }
 {
     let n = place.rows;
     let w = entries::width_of(entries::LATITUDE);
     let a = 4 * place.start;
     let z = a + 4 * (n * w);
-    note_beside(&old[a..z], n, new, other, minutes)
+    differs_beside(&old[a..z], n, new, other, minute)
 }
 
-// The minutes of the old sheet's latitude rows that are otherwise in the new one, or not there, in rising order at the front of `minutes`; how many. Both sheets are known to pass, with
-// their places.
-pub fn differing_rows(old: &[u8], p: Places, new: &[u8], q: Places, minutes: &mut [i32]) -> usize
-    requires { ⌜ (checkOf (now old) .number ≡ 0) × (p ≡ placesOf (now old)) × (checkOf (now new) .number ≡ 0) × (q ≡ placesOf (now new)) × (1_200 ≤ length (now minutes)) ⌝ }
-    ensures { λ r. ⌜ (r ≤ 1_200) × Noted (now (minutes .entry)) (now (minutes .exit)) 0 r (differingRows (now (old .entry)) (now (new .entry))) ⌝ }
+// Whether the old sheet has a latitude row with the minute, and that row is otherwise in the new one, or not there. Both sheets are known to pass, with their places.
+pub fn differs_at(old: &[u8], p: Places, new: &[u8], q: Places, minute: i32) -> bool
+    requires { ⌜ (checkOf (now old) .number ≡ 0) × (p ≡ placesOf (now old)) × (checkOf (now new) .number ≡ 0) × (q ≡ placesOf (now new)) ⌝ }
+    ensures { λ r. ⌜ r ≡ isDiffering (now (old .entry)) (now (new .entry)) minute ⌝ }
 {
-    note_sheets(old, p.latitude, new, q.latitude, minutes)
+    differs_between(old, p.latitude, new, q.latitude, minute)
 }

@@ -1,11 +1,8 @@
 -- What is printed for a line of the "Points program". A line is its bytes without the line feed; s is the sheet.
-use Prim.Native.Nat.{ℕ, _+_}
+use Prim.Native.Nat.{ℕ}
 use mathlib.Core.List.{List, [], _∷_, _++_}
-use lib.Dec.{leb}
 use lib.IntN.{ℤ, pos}
-use lib.ListN.{length}
-use lib.Seq.{sets}
-use Rattle.words.specs.Ladder.{need, whereIs}
+use Rattle.words.specs.Ladder.{whereIs}
 use Rattle.forward.specs.declared.Plane.{Plane}
 use Rattle.inverse.specs.declared.Geographic.{Geographic}
 use Rattle.grid.specs.declared.Grid.{Grid}
@@ -14,7 +11,6 @@ use Rattle.decimal.specs.Writing.{sizeText, numberText}
 use Rattle.asked.specs.declared.Line.{Line}
 use Rattle.asked.specs.Asked.{lineOf}
 use Rattle.lines.specs.declared.Values.{Values}
-use Rattle.lines.specs.declared.Written.{Written}
 
 -- ---- what is printed
 -- A text, and the byte after it: 32 is a blank, 10 a line feed.
@@ -66,18 +62,6 @@ textOf v = whereIs (v .number) 18 unknownLine (answerLine (v .number) (v .first)
 unfoldable pub answerText : List ℕ → List ℕ → List ℕ
 answerText s line = textOf (valuesOf s (lineOf line))
 
--- ---- the line written to lent memory
 -- Room for any line: three numbers of at most 21 bytes, with a byte after each.
 abbrev pub lineRoom : ℕ
 lineRoom = 66
-
-abbrev pub written : ℕ → ℕ → Written
-written number length = record { number = number; length = length }
-
--- "17 [..] for too little room", less than `lineRoom`; else the line's length. What refuses the sheet, the point or the line stands in the text: it is no refusal to write.
-unfoldable pub writtenOf : List ℕ → List ℕ → List ℕ → Written
-writtenOf s line old = need (leb lineRoom (length old)) (written 17 0) (written 0 (length (answerText s line)))
-
--- The memory after it: the line at its front, the rest as it was; "a refusal writes nothing".
-unfoldable pub afterLine : List ℕ → List ℕ → List ℕ → List ℕ
-afterLine s line old = need (leb lineRoom (length old)) old (sets old 0 (answerText s line))

@@ -6,25 +6,19 @@ use asked::Line;
 use asked::SCALE;
 use entries::Places;
 ghost use mathlib.Core.Path.{_≡_};
-ghost use Prim.Native.Nat.{_+_, _≤_, _<_};
+ghost use Prim.Native.Nat.{_+_, _≤_};
 ghost use lib.IntN.{pos};
 ghost use lib.ListN.{length};
 ghost use Rattle.entries.specs.Entries.{placesOf};
 ghost use Rattle.bodies.specs.Check.{checkOf};
 ghost use Rattle.decimal.specs.Writing.{sizeText, numberText, Wrote};
-ghost use Rattle.lines.specs.Lines.{ended, answerLine, verdictLine, unknownLine, values, valuesOf, textOf, answerText, lineRoom, writtenOf, afterLine};
+ghost use Rattle.lines.specs.Lines.{ended, answerLine, verdictLine, unknownLine, values, valuesOf, textOf, answerText, lineRoom};
 
 // What a line is answered: a number and two values, zeros where the number refuses.
 pub struct Values {
     pub number: u32,
     pub first: i32,
     pub second: i32,
-}
-
-// What was written: 0 and how many bytes, or 17 and 0.
-pub struct Written {
-    pub number: u32,
-    pub length: usize,
 }
 
 const LINE_FEED: u8 = 10;
@@ -141,20 +135,6 @@ pub fn values_of(s: &[u8], p: Places, l: Line) -> Values
     refusal(UNKNOWN)
 }
 
-// What the line is answered on any sheet, which is checked first where the line is of a known form.
-fn checked_values(sheet: &[u8], l: Line) -> Values
-    ensures { λ r. ⌜ r ≡ valuesOf (now (sheet .entry)) l ⌝ }
-{
-    if !asked::is_form(l.form) {
-        return refusal(UNKNOWN);
-    }
-    let number = bodies::check(sheet).number;
-    if number != 0 {
-        return refusal(number);
-    }
-    values_of(sheet, entries::places_of(sheet), l)
-}
-
 // The line's answer on a sheet known to pass, with its places, from `at` on; the place after it.
 pub fn answer(s: &[u8], p: Places, line: &[u8], out: &mut [u8], at: usize) -> usize
     requires { ⌜ (checkOf (now s) .number ≡ 0) × (p ≡ placesOf (now s)) × (at + lineRoom ≤ length (now out)) ⌝ }
@@ -162,30 +142,4 @@ pub fn answer(s: &[u8], p: Places, line: &[u8], out: &mut [u8], at: usize) -> us
 {
     let v = values_of(s, p, asked::line_of(line));
     put_values(out, at, v)
-}
-
-// The line's answer on any sheet, checked first, from the front of `out` on; its length.
-fn checked_answer(sheet: &[u8], line: &[u8], out: &mut [u8]) -> usize
-    requires { ⌜ lineRoom ≤ length (now out) ⌝ }
-    ensures { λ r. ⌜ Wrote (now (out .entry)) (now (out .exit)) 0 r (answerText (now (sheet .entry)) (now (line .entry))) ⌝ }
-{
-    let v = checked_values(sheet, asked::line_of(line));
-    put_values(out, 0, v)
-}
-
-// The line's answer on any sheet, checked first, from the front of `out` on; 17 where `out` has less room than any line may need.
-pub fn answer_line(sheet: &[u8], line: &[u8], out: &mut [u8]) -> Written
-    ensures answer { λ r. ⌜ r ≡ writtenOf (now (sheet .entry)) (now (line .entry)) (now (out .entry)) ⌝ }
-    ensures memory { λ _. ⌜ now (out .exit) ≡ afterLine (now (sheet .entry)) (now (line .entry)) (now (out .entry)) ⌝ }
-{
-    if out.len() < LINE_ROOM {
-        return Written {
-            number: 17,
-            length: 0,
-        };
-    }
-    Written {
-        number: 0,
-        length: checked_answer(sheet, line, out),
-    }
 }

@@ -40,10 +40,10 @@ use Rattle.door.proofs.convergence_and_scale.Kinds as door-grid-kinds
 use Rattle.door.proofs.convergence_and_scale.Reads as door-grid-reads
 use Rattle.door.proofs.feet.Kinds as feet-kinds
 use Rattle.door.proofs.feet.Reads as feet-reads
-use Rattle.lines.proofs.answer_line.Kinds as line-kinds
-use Rattle.lines.proofs.answer_line.Reads as line-reads
-use Rattle.redone.proofs.redo_line.Kinds as redone-kinds
-use Rattle.redone.proofs.redo_line.Reads as redone-reads
+use Rattle.lines.proofs.answer.Kinds as line-kinds
+use Rattle.lines.proofs.answer.Reads as line-reads
+use Rattle.compared.proofs.compare_line.Kinds as compared-kinds
+use Rattle.compared.proofs.compare_line.Reads as compared-reads
 use Rattle.asked.proofs.line_of.Kinds as asked-kinds
 use Rattle.asked.proofs.line_of.Reads as asked-reads
 use Rattle.decimal.proofs.byte_at.Kinds as byte-kinds
@@ -128,15 +128,18 @@ pub one-feet : (κs : Lfts 0) (given : Dens κs feet-kinds.ps) (r t : resT feet-
     → feet-reads.Learnt κs given r x → feet-reads.Learnt κs given t y → r ≡ t
 one-feet κs given r t x y p q = p ∙ sym q
 
--- `lines::answer_line`: one number and length, and one content of the output's memory
+-- `lines::answer`: one place after the line, and one content of the output's memory
 pub one-line : (κs : Lfts 3) (given : Dens κs line-kinds.ps) (r t : resT line-kinds.r κs .Denot) (x y : AtExit (endedOf 3 line-kinds.ps line-kinds.r) κs)
-    → line-reads.Learnt κs given r x → line-reads.Learnt κs given t y → (r ≡ t) × (now (x .1 .1 .0) ≡ now (y .1 .1 .0))
-one-line κs given r t x y p q = (p .0 ∙ sym (q .0), p .1 ∙ sym (q .1))
+    → line-reads.Learnt κs given r x → line-reads.Learnt κs given t y → (r ≡ t) × (now (x .1 .1 .1 .0) ≡ now (y .1 .1 .1 .0))
+one-line κs given r t x y p q = (p .1 .place ∙ sym (q .1 .place), p .1 .bytes ∙ sym (q .1 .bytes))
 
--- `redone::redo_line`: one answer, and one content of the output's memory
-pub one-redone : (κs : Lfts 4) (given : Dens κs redone-kinds.ps) (r t : resT redone-kinds.r κs .Denot) (x y : AtExit (endedOf 4 redone-kinds.ps redone-kinds.r) κs)
-    → redone-reads.Learnt κs given r x → redone-reads.Learnt κs given t y → (r ≡ t) × (now (x .1 .1 .1 .1 .0) ≡ now (y .1 .1 .1 .1 .0))
-one-redone κs given r t x y p q = (p .0 ∙ sym (q .0), p .1 ∙ sym (q .1))
+-- `compared::compare_line`: one answer, and one content of the output's memory
+pub one-compared : (κs : Lfts 4) (given : Dens κs compared-kinds.ps) (r t : resT compared-kinds.r κs .Denot) (x y : AtExit (endedOf 4 compared-kinds.ps compared-kinds.r) κs)
+    → compared-reads.Learnt κs given r x → compared-reads.Learnt κs given t y → (r ≡ t) × (now (x .1 .1 .1 .1 .1 .0) ≡ now (y .1 .1 .1 .1 .1 .0))
+one-compared κs given r t x y p q =
+    let one = p .1 .1 .1 .1 in
+    let two = q .1 .1 .1 .1 in
+    (rw (p .0 ∙ sym (q .0), p .1 .0 ∙ sym (q .1 .0), p .1 .1 .0 ∙ sym (q .1 .1 .0), one .place ∙ sym (two .place)), one .bytes ∙ sym (two .bytes))
 
 -- `asked::line_of`
 pub one-asked : (κs : Lfts 1) (given : Dens κs asked-kinds.ps) (r t : resT asked-kinds.r κs .Denot) (x y : AtExit (endedOf 1 asked-kinds.ps asked-kinds.r) κs)

@@ -1,8 +1,8 @@
 -- `NoneMissed` holds: a line that no differing row may touch is answered as before. Assumes nothing.
 use mathlib.Core.Path.{_≡_, refl, sym, ap, _∙_}
 use mathlib.Core.Bool.{Bool, true, false, not, _&&_, _||_}
-use mathlib.Core.List.{List, [], _∷_, _++_}
-use Prim.Native.Nat.{ℕ, zero, suc, _-_, _<_}
+use mathlib.Core.List.{List}
+use Prim.Native.Nat.{ℕ, _-_}
 use native.Mathlib.Decide.{ℕ-discrete}
 use native.Mathlib.Omega.{arith}
 use lib.IntN.{ℤ, pos}
@@ -23,9 +23,11 @@ use Rattle.asked.specs.declared.Line.{Line}
 use Rattle.lines.specs.Lines.{planeValues, geographicValues, valuesOf}
 use Rattle.corrected.proofs.Beside.{Beside}
 use Rattle.corrected.proofs.AllSame.{forward-all, inverse-all}
-use Rattle.differing.proofs.Noting.{same-figures}
-use Rattle.differing.specs.Differing.{sameFigures, minuteAt, rowDiffers, minuteWhere, differing, differingRows}
-use Rattle.compared.specs.Compared.{sameValues, changes, touches, eitherTouches, reaches}
+use Rattle.differing.specs.Differing.{sameFigures, minuteAt, rowDiffers, differingRows, anyOf, differsAt, isDiffering}
+use Rattle.differing.proofs.OneRow.{same-figures}
+use Rattle.differing.proofs.Among.{among}
+use Rattle.reached.specs.Reached.{touches, eitherTouches, reaches}
+use Rattle.compared.specs.Compared.{changes}
 use Rattle.compared.proofs.Comparing.{answers-same}
 use Rattle.promises.specs.Corrections.{Passes, putIn}
 use Rattle.promises.specs.Redo.{NoneMissed}
@@ -34,39 +36,9 @@ use Rattle.promises.proofs.Corrections as corrections
 never : {A : Type 0} → false ≡ true → A
 never h = let e : _≡_ {A = ℕ} 0 1 = cc in absurd (omega arith)
 
--- ---- some of the minutes
-or-assoc : (a b c : Bool) → a || (b || c) ≡ (a || b) || c
-or-assoc true b c = refl
-or-assoc false b c = refl
-
-or-true : (a : Bool) → a || true ≡ true
-or-true true = refl
-or-true false = refl
-
 or-false : (a b : Bool) → a || b ≡ false → a ≡ false
 or-false false b h = refl
 or-false true b h = h
-
-module _ (s t : List ℕ) (l : Line) where
-  reaches-both : (xs ys : List ℤ) → reaches s t l (xs ++ ys) ≡ reaches s t l xs || reaches s t l ys
-  unfolding reaches
-  reaches-both [] ys = refl
-  reaches-both (m ∷ xs) ys = ap (λ (r : Bool). eitherTouches s t l m || r) (reaches-both xs ys) ∙ or-assoc (eitherTouches s t l m) (reaches s t l xs) (reaches s t l ys)
-
-  -- a row that differs is among those that do
-  module _ (b c : List ℕ) (m r : ℕ) (differs : rowDiffers b c m r ≡ true) (yes-touched : eitherTouches s t l (minuteAt b r) ≡ true) where
-    own : reaches s t l (minuteWhere b c m r) ≡ true
-    unfolding minuteWhere reaches
-    own = rw (differs, yes-touched)
-
-    row-in : (n : ℕ) → r < n → reaches s t l (differing b c m n) ≡ true
-    unfolding differing
-    row-in zero h = absurd (omega arith)
-    row-in (suc i) h = reaches-both (differing b c m i) (minuteWhere b c m i) ∙ pick (ℕ-discrete r i) (row-in i)
-      where
-        pick : Dec (r ≡ i) → (r < i → reaches s t l (differing b c m i) ≡ true) → reaches s t l (differing b c m i) || reaches s t l (minuteWhere b c m i) ≡ true
-        pick (yes e) earlier = ap (λ (q : Bool). reaches s t l (differing b c m i) || q) (rw e at own) ∙ or-true (reaches s t l (differing b c m i))
-        pick (no p) earlier = rw (earlier (omega arith))
 
 -- ---- a line is answered alike where its form's conversion is
 values-stay : (s t : List ℕ) (l : Line)
@@ -197,14 +169,19 @@ module _ (s : List ℕ) (passes : Passes s) (minute : ℤ) (f : Figures) (accept
         ∙ sym (corrections.earth-steps s passes minute f accepted s ok (l .first) (l .second)))
         (grid-stays (l .first) (l .second)))
 
+  -- ---- the row differs, and may touch the line
+  there-differs : rowDiffers b c m r ≡ true → isDiffering s t minute ≡ true
+  unfolding isDiffering differsAt
+  there-differs p = rw (has, p)
+
   missed-none : changes s t l ≡ true → reaches s t l (differingRows s t) ≡ true
-  unfolding differingRows
+  unfolding reaches
   missed-none changed = by-row (rowDiffers b c m r) refl (eitherTouches s t l minute) refl
     where
-      by-row : (d : Bool) → rowDiffers b c m r ≡ d → (e : Bool) → eitherTouches s t l minute ≡ e → reaches s t l (differing b c m (rowsOf s latitude)) ≡ true
+      by-row : (d : Bool) → rowDiffers b c m r ≡ d → (e : Bool) → eitherTouches s t l minute ≡ e → anyOf (eitherTouches s t l) (differingRows s t) ≡ true
       by-row false p e q = never (sym (same-unchanged p) ∙ changed)
       by-row true p false q = never (sym (far-unchanged (or-false (touches s l minute) (touches t l minute) q)) ∙ changed)
-      by-row true p true q = row-in s t l b c m r p (rw minute-own q) (rowsOf s latitude) (corrections.there s passes minute f has)
+      by-row true p true q = among s t ok (eitherTouches s t l) minute (there-differs p) q
 
 pub none-missed : NoneMissed
 none-missed s passes minute f accepted l changed =

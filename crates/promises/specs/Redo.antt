@@ -8,7 +8,8 @@ use Rattle.rules.specs.declared.Figures.{Figures}
 use Rattle.correct.specs.Correction.{correctionOf, correctedOf}
 use Rattle.asked.specs.declared.Line.{Line}
 use Rattle.differing.specs.Differing.{differingRows}
-use Rattle.compared.specs.Compared.{changes, reaches}
+use Rattle.reached.specs.Reached.{reaches}
+use Rattle.compared.specs.Compared.{changes}
 use Rattle.promises.specs.Corrections.{Passes}
 
 -- After a correction that was accepted, on a sheet that passes, every line whose answer changes counts among those that are reached, by the rows in which the sheets differ: who redoes the reached ones misses none.

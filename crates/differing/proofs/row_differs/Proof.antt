@@ -4,7 +4,7 @@ use denote.Ref.{now}
 use mir.Syntax.{w32}
 use mir.Val.{toZ, ofZ}
 use Rattle.judge.specs.Judge.{namedRow, hasRow}
-use Rattle.differing.proofs.Noting.{not-there, there, as-figures}
+use Rattle.differing.proofs.OneRow.{not-there, there, as-figures}
 use borrow.Author.Needs.{needs}
 use Rattle.differing.proofs.row_differs.Statement.{statement}
 use Rattle.differing.proofs.row_differs.Tie as tie

@@ -1,0 +1,2 @@
+-- The definitions of which lines the rows in which two sheets differ may touch.
+pub mod Reached
