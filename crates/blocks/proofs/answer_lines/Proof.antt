@@ -1,13 +1,17 @@
 -- `blocks::answer_lines` meets its contract: each turn answers one line more. Assumes nothing.
 use borrow.Author.Needs.{needs}
 use mathlib.Core.Path.{_≡_, refl, _∙_}
+use Prim.{tt}
 use Prim.Native.Nat.{_+_, _-_, _≤_}
 use native.Mathlib.Omega.{arith}
 use denote.Ref.{now}
 use lib.ListN.{length}
 use lib.Seq.{slice}
 use Rattle.bytes.specs.Bytes.{indexOf}
-use Rattle.blocks.proofs.Answering.{Going, start, one-more, all-done}
+use Rattle.lines.specs.Lines.{lineRoom}
+use Rattle.blocks.specs.Blocks.{answering}
+use Rattle.blocks.proofs.Working.{Working, start, one-more, finished}
+use Rattle.blocks.proofs.Answering.{answering-is}
 use Rattle.blocks.proofs.answer_lines.Statement.{statement}
 use Rattle.blocks.proofs.answer_lines.Tie as tie
 use Rattle.blocks.proofs.answer_lines.Reads as reads
@@ -16,7 +20,7 @@ use Rattle.lines.proofs.answer.Reads as answer-reads
 use Rattle.stream.proofs.line_end.Reads as line-end-reads
 
 abbrev Inv-loop : tie.InvT-loop
-Inv-loop s p buffer from to out₀ i₀ at₀ end₀ out i at end = Going s buffer from to out₀ out i at × (end ≡ i + indexOf 10 (slice i to buffer)) × (end ≤ to) × (length out ≡ length out₀)
+Inv-loop s p buffer from to out₀ i₀ at₀ end₀ out i at end = Working (answering s) lineRoom buffer from to tt out₀ out i at tt × (end ≡ i + indexOf 10 (slice i to buffer)) × (end ≤ to) × (length out ≡ length out₀)
 
 abbrev μ-loop : tie.MeasureT-loop
 μ-loop s p buffer from to out₀ i₀ at₀ end₀ out i at end = to - i
@@ -30,7 +34,7 @@ loop-holds : tie.Need-loop-holds Inv-loop μ-loop
 loop-holds c =
     let first = c .before .before .before .before in
     let a = first .args in
-    (start (now (a .s)) (now (a .buffer)) _ _ (now (a .out)) (first .pre .2), c .line-end .ensures .0, c .line-end .ensures .1, refl)
+    (start (answering (now (a .s))) lineRoom (now (a .buffer)) _ _ tt (now (a .out)) (first .pre .2), c .line-end .ensures .0, c .line-end .ensures .1, refl)
 
 -- src/lib.rt:30:34
 sub-answer : tie.Need-sub-answer Inv-loop μ-loop
@@ -78,8 +82,8 @@ returns : tie.Need-returns Inv-loop μ-loop
 returns c =
     let l = c .before .loop in
     let first = c .before .before .before .before .before .before in
-    let d = all-done (l .inv .0) (first .pre .3) _ (l .inv .1) (c .loop-test .left) (l .inv .2) in
-    (l .inv .0 .inside, omega (arith, l .inv .0 .room, l .inv .0 .inside, first .pre .4), d .0, d .1)
+    let d = finished (l .inv .0) (first .pre .3) _ (l .inv .1) (c .loop-test .left) (l .inv .2) in
+    (l .inv .0 .inside, omega (arith, l .inv .0 .far, l .inv .0 .inside, first .pre .4), d .rest, rw (answering-is (now (first .args .s))) at (d .all))
 
 pub answer-lines-spec : {M : Type 1} → statement M
 answer-lines-spec =

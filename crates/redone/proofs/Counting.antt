@@ -1,0 +1,82 @@
+-- The tally, count by count. Assumes nothing.
+use mathlib.Core.Path.{_≡_, refl, sym, ap, _∙_}
+use mathlib.Core.Bool.{Bool, true, false}
+use mathlib.Core.List.{List, [], _∷_, _++_, append-nil}
+use Prim.Native.Nat.{ℕ, _-_, _≤_}
+use native.Mathlib.Omega.{arith}
+use lib.ListN.{length, take}
+use lib.Seq.{length-take-le}
+use Rattle.words.proofs.Refusals.{is, is-not}
+use Rattle.decimal.specs.Writing.{Wrote}
+use Rattle.decimal.proofs.Spelling.{then}
+use Rattle.asked.specs.Asked.{isForm, lineOf}
+use Rattle.differing.specs.Differing.{differingRows}
+use Rattle.reached.specs.Reached.{reaches}
+use Rattle.compared.specs.Compared.{changes, comparedText}
+use Rattle.stream.specs.Stream.{lastLine}
+use Rattle.stream.specs.Pieces.{answers, after, written}
+use Rattle.redone.specs.declared.Tally.{Tally}
+use Rattle.redone.specs.Tallied.{up, upWhere, strayAfter, tallied, countsText}
+use Rattle.redone.specs.Redone.{comparing}
+
+module _ (more : Bool) (n : ℕ) where
+  pub one-up : (r : ℕ) → more ≡ true → r ≡ up n → r ≡ upWhere more n
+  unfolding upWhere
+  one-up r t e = rw t e
+
+  pub as-before : more ≡ false → n ≡ upWhere more n
+  unfolding upWhere
+  as-before t = rw t
+
+module _ (known : Bool) (stray n : ℕ) where
+  pub known-line : known ≡ true → stray ≡ strayAfter known stray n
+  unfolding strayAfter
+  known-line t = rw t
+
+  pub first-stray : known ≡ false → stray ≡ 0 → n ≡ strayAfter known stray n
+  unfolding strayAfter
+  first-stray t e = rw t (is stray 0 n stray n e refl)
+
+  pub later-stray : known ≡ false → (stray ≡ 0 → ⊥) → stray ≡ strayAfter known stray n
+  unfolding strayAfter
+  later-stray t e = rw t (is-not stray 0 n stray stray e refl)
+
+-- ---- a line more
+module _ (s t : List ℕ) (a : Tally) (line : List ℕ) where
+  pub counted-one : (point changed reached : Bool) (n i j k m : ℕ) → point ≡ isForm (lineOf line .form) → changed ≡ changes s t (lineOf line) → reached ≡ reaches s t (lineOf line) (differingRows s t)
+      → n ≡ up (a .lines) → i ≡ upWhere point (a .points) → j ≡ upWhere changed (a .changed) → k ≡ upWhere reached (a .reached) → m ≡ strayAfter point (a .stray) n
+      → record { lines = n; points = i; changed = j; reached = k; stray = m } ≡ tallied s t a (lineOf line)
+  unfolding tallied
+  counted-one point changed reached n i j k m p q l e f g h o = rw (o, h, g, f, e, p, q, l)
+
+  pub written-one : (n : ℕ) (old new : List ℕ) (at next : ℕ) → n ≡ up (a .lines) → Wrote old new at next (comparedText s t n (lineOf line)) → Wrote old new at next (comparedText s t (up (a .lines)) (lineOf line))
+  written-one n old new at next e w = rw e at w
+
+-- ---- the input's end
+module _ (s t : List ℕ) (a : Tally) where
+  pub none-left : (n : ℕ) (buffer old : List ℕ) → n ≡ 0 → (a ≡ after (comparing s t) a (lastLine (take n buffer))) × Wrote old old 0 0 (answers (comparing s t) a (lastLine (take n buffer)))
+  unfolding lastLine answers after
+  none-left n buffer old e = rw e (refl, record { place = refl; bytes = refl })
+
+  last-after : (line : List ℕ) → (length line ≡ 0 → ⊥) → after (comparing s t) a (lastLine line) ≡ tallied s t a (lineOf line)
+  unfolding lastLine after
+  last-after [] h = absurd (h refl)
+  last-after (b ∷ line) h = refl
+
+  last-answers : (line : List ℕ) → (length line ≡ 0 → ⊥) → answers (comparing s t) a (lastLine line) ≡ comparedText s t (up (a .lines)) (lineOf line)
+  unfolding lastLine answers
+  last-answers [] h = absurd (h refl)
+  last-answers (b ∷ line) h = append-nil (comparedText s t (up (a .lines)) (lineOf (b ∷ line)))
+
+  lent : (n : ℕ) (buffer : List ℕ) → take (n - 0) buffer ≡ take n buffer
+  lent n buffer = let z : n - 0 ≡ n = omega arith in rw z
+
+  pub one-left : (n : ℕ) (buffer old new : List ℕ) (at : ℕ) (r : Tally) → n ≤ length buffer → (n ≡ 0 → ⊥) → r ≡ tallied s t a (lineOf (take (n - 0) buffer)) → Wrote old new 0 at (comparedText s t (up (a .lines)) (lineOf (take (n - 0) buffer)))
+      → (r ≡ after (comparing s t) a (lastLine (take n buffer))) × Wrote old new 0 at (answers (comparing s t) a (lastLine (take n buffer)))
+  one-left n buffer old new at r l h e w =
+      let some : length (take n buffer) ≡ 0 → ⊥ = λ z. h (sym (length-take-le n buffer l) ∙ z) in
+      (rw (last-after (take n buffer) some, ← lent n buffer) e, rw (last-answers (take n buffer) some, ← lent n buffer) w)
+
+  pub closed : (lines : List (List ℕ)) (old mid new : List ℕ) (i at : ℕ) (r : Tally) → r ≡ after (comparing s t) a lines → Wrote old mid 0 i (answers (comparing s t) a lines) → Wrote mid new i at (countsText r) → Wrote old new 0 at (written (comparing s t) a lines)
+  unfolding written
+  closed lines old mid new i at r e v w = then v (rw e at w)
