@@ -11,7 +11,7 @@ use lib.IntN.{ℤ, pos}
 use Rattle.figures.proofs.Tests.{both}
 use Rattle.entries.specs.Layout.{latitude}
 use Rattle.entries.specs.Entries.{rowsOf, bodyOf}
-use Rattle.rules.specs.Limits.{sameAs, inRange}
+use Rattle.rules.specs.Limits.{inRange}
 use Rattle.rules.proofs.Ranges.{same-true}
 use Rattle.bodies.specs.Check.{checkOf}
 use Rattle.tables.proofs.Ranges.{latitude-some}

@@ -1,5 +1,5 @@
 -- A line asked of one sheet and of both: each test of it, in the shape of the code. Assumes nothing.
-use mathlib.Core.Path.{_≡_, refl, sym, ap, _∙_}
+use mathlib.Core.Path.{_≡_, refl, ap, _∙_}
 use mathlib.Core.Bool.{Bool, true, false, not, _&&_, _||_}
 use mathlib.Core.List.{List, [], _∷_}
 use Prim.Native.Nat.{ℕ, _+_, _*_, _/_, _≤_}
@@ -17,7 +17,7 @@ use Rattle.touched.specs.Touched.{geographicTouched, planeTouched}
 use Rattle.asked.specs.declared.Line.{Line}
 use Rattle.differing.specs.Differing.{differingRows, anyOf, isDiffering}
 use Rattle.differing.proofs.Among.{one-of-two}
-use Rattle.reached.specs.Reached.{touches, eitherTouches, reaches, planeMinute, lowerMinute}
+use Rattle.reached.specs.Reached.{touches, reaches, planeMinute, lowerMinute}
 use Rattle.reached.proofs.TwoMinutes.{only-two}
 
 -- ---- the lower minute

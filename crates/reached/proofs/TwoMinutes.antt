@@ -4,7 +4,7 @@ use mathlib.Core.Bool.{Bool, true, false, cond, _&&_}
 use mathlib.Core.List.{List}
 use mathlib.Core.Logic.{_⊎_, inl, inr, ⊎-elim}
 use Prim.Native.Nat.{ℕ, zero, suc, _+_, _-_, _*_, _/_, _<_, _≤_}
-use native.Mathlib.Decide.{decLe, ℕ-discrete}
+use native.Mathlib.Decide.{decLe}
 use native.Mathlib.Nat.{div-add-mod', mod-lt, mul-div-cancel}
 use native.Mathlib.Numerals.{add-one}
 use native.Mathlib.Omega.{arith}
@@ -16,9 +16,9 @@ use Rattle.figures.proofs.Sizes.{pos-minus, subℕ-le, subℕ-lt, size-product}
 use Rattle.figures.proofs.Bits.{both-same}
 use Rattle.figures.proofs.Tests.{both}
 use Rattle.figures.proofs.Order.{above-of, not-above-of, not-below-of, ltZ-le, ltZ-leZ, leZ-trans, heights-le}
-use Rattle.words.specs.Ladder.{need, whereIs, whereBelow}
-use Rattle.words.proofs.Refusals.{is, is-not, where-below}
-use Rattle.entries.specs.Layout.{latitude, stepOf}
+use Rattle.words.specs.Ladder.{need, whereIs}
+use Rattle.words.proofs.Refusals.{where-below}
+use Rattle.entries.specs.Layout.{latitude}
 use Rattle.entries.specs.Entries.{rowsOf, bodyOf}
 use Rattle.rows.specs.Rows.{rowAt}
 use Rattle.bodies.specs.Check.{checkOf}
@@ -34,7 +34,6 @@ use Rattle.inverse.specs.Inverse.{reducedNorthing, rowOf}
 use Rattle.judge.specs.Judge.{fromFirstMinute}
 use Rattle.judge.proofs.Place.{row-size, row-there}
 use Rattle.touched.specs.Touched.{touch, noTouch, hasMinute, rowNamed, nearRow, forwardTouched, abovePrior, belowNext, inverseTouched, geographicTouched, planeTouched}
-use Rattle.touched.proofs.Beside.{two-rows}
 use Rattle.asked.specs.declared.Line.{Line}
 use Rattle.reached.specs.Reached.{touches, firstMinute, planeMinute, lowerMinute}
 

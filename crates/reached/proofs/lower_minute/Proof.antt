@@ -1,7 +1,7 @@
 -- `reached::lower_minute` meets its contract. Assumes nothing.
 use mathlib.Core.Path.{_≡_, ap, _∙_}
 use native.Mathlib.Omega.{arith}
-use mir.Syntax.{w32, w64}
+use mir.Syntax.{w32}
 use mir.Val.{SFits, toZ, ofZ}
 use lib.IntN.{natAbs}
 use Rattle.figures.proofs.Holds.{size-below}
