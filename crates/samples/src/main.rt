@@ -2,8 +2,8 @@
 //
 //     NAME                 the sheet of the file with that name
 //     word WORD VALUE      the sheet named last, with one word changed
-//     N bytes              its first N bytes, with zeros behind the file's own
-//     lines                begins a list: the lines of the points program that follow, which are asked later
+//     N bytes              its first N bytes, at most 65,536, with zeros behind the file's own
+//     lines                begins a list: lines of the points program, which follow and are asked later
 //     ask                  the list's lines, answered
 //     C minute y0 H V a    a correction of the sheet: its number, what it changed, and the list's lines, answered before and after it
 //     # TEXT               for the reader, as are empty lines
@@ -134,7 +134,7 @@ fn touch(sheet: &[u8], minute: i32, l: Line) {
     }
 }
 
-// Prints the line and its answer; after a correction of the minute's row also the answer then, and whether that may have changed.
+// Prints the line and its answer; where the minute's row was corrected, also the answer after that, and whether the correction may change it.
 fn ask(line: &[u8], before: &[u8], after: &[u8], corrected: bool, minute: i32) {
     let l = asked::line_of(line);
     print(line);
