@@ -1,17 +1,16 @@
--- What a line asks, test after test. Assumes nothing.
-use mathlib.Core.Path.{_≡_, refl}
-use mathlib.Core.Bool.{Bool, true, false, not, _||_}
+-- What a line asks: the two numbers in turn, and a line that is too long. Assumes nothing.
+use mathlib.Core.Path.{_≡_, refl, ap, _∙_}
+use mathlib.Core.Bool.{Bool, true, false, not, _&&_, _||_, and-false}
 use mathlib.Core.List.{List}
-use Prim.Native.Nat.{ℕ, zero, suc, _+_, _<_}
+use Prim.Native.Nat.{ℕ, _<_}
 use native.Mathlib.Omega.{arith}
-use borrow.Author.Tests.{not-true, not-false, eq-eqb, ne-eqb, lt-ltb}
-use lib.Dec.{eqb, ltb}
-use lib.ListN.{length, drop, getD}
+use lib.Dec.{eqb}
+use lib.ListN.{length, getD}
 use Rattle.words.specs.Ladder.{need}
-use Rattle.decimal.specs.declared.Number.{Number}
-use Rattle.decimal.specs.Reading.{numberOf}
-use Rattle.decimal.proofs.NumbersRead.{number-most}
-use Rattle.asked.specs.declared.Line.{Line}
+use Rattle.words.proofs.Refusals.{stop, go}
+use Rattle.fields.specs.declared.Field.{Field}
+use Rattle.fields.specs.Fields.{fieldAt, lastAt}
+use Rattle.fields.proofs.Fields.{field-most, last-long}
 use Rattle.asked.specs.Asked.{isForm, firstOf, secondOf, asks, unknown, lineOf}
 
 -- ---- a form's letter
@@ -23,65 +22,36 @@ form-is b = joined (eqb b 71) (eqb b 80) (eqb b 83)
     joined true y z = refl
     joined false y z = refl
 
--- ---- the line
-above-zero : (n : ℕ) → (n ≡ 0 → ⊥) → ltb 0 n ≡ true
-above-zero zero h = absurd (h refl)
-above-zero (suc n) h = lt-ltb 0 (suc n) (omega arith)
+-- ---- the line: form, blank, first and second are what the code found, t whether the form's letter is one
+module _
+    (line : List ℕ)
+    (form blank : ℕ)
+    (first second : Field)
+    (t : Bool)
+    (ef : form ≡ getD line 0 0)
+    (eb : blank ≡ getD line 1 0)
+    (e1 : first ≡ firstOf line)
+    (e2 : second ≡ lastAt line (first .next))
+    (et : t ≡ isForm form)
+  where
+    abbrev found : Bool
+    found = t && eqb blank 32 && first .found && second .found
 
-module _ (line : List ℕ) (form : ℕ) (f : form ≡ getD line 0 0) (t : Bool) (e : t ≡ isForm form) where
-  pub no-form : not t ≡ true → unknown ≡ lineOf line
-  unfolding lineOf need
-  no-form h = rw (← f, ← e, not-true t h)
+    second-is : second ≡ secondOf line
+    second-is = e2 ∙ ap (λ f. lastAt line (f .next)) e1
 
-  module _ (h : not t ≡ false) (b : ℕ) (k : b ≡ getD line 1 0) where
-    pub no-blank : (b ≡ 32 → ⊥) → unknown ≡ lineOf line
-    unfolding lineOf need
-    no-blank n = rw (← f, ← e, not-false t h, ← k, ne-eqb b 32 n)
+    found-is : found ≡ (isForm (getD line 0 0) && eqb (getD line 1 0) 32 && firstOf line .found && secondOf line .found)
+    found-is = rw (et, ef, eb, e1, second-is)
 
-    module _ (n : b ≡ 32) (first : Number) (one : first ≡ numberOf (drop 2 line)) where
-      first-is : firstOf line ≡ first
-      unfolding firstOf
-      first-is = rw one
+    pub not-known : not found ≡ true → unknown ≡ lineOf line
+    unfolding lineOf
+    not-known h = stop _ found unknown _ found-is h
 
-      pub no-first : first .length ≡ 0 → unknown ≡ lineOf line
-      unfolding lineOf need
-      no-first z = rw (← f, ← e, not-false t h, ← k, eq-eqb b 32 n, first-is, z)
-
-      module _ (z : first .length ≡ 0 → ⊥) (m : ℕ) (l : m ≡ getD line (2 + first .length) 0) where
-        pub no-second-blank : (m ≡ 32 → ⊥) → unknown ≡ lineOf line
-        unfolding lineOf need
-        no-second-blank o = rw (← f, ← e, not-false t h, ← k, eq-eqb b 32 n, first-is, above-zero (first .length) z, ← l, ne-eqb m 32 o)
-
-        module _ (o : m ≡ 32) (second : Number) (two : second ≡ numberOf (drop (3 + first .length) line)) where
-          second-is : secondOf line ≡ second
-          unfolding secondOf
-          second-is = rw (first-is, two)
-
-          pub no-second : second .length ≡ 0 → unknown ≡ lineOf line
-          unfolding lineOf need
-          no-second y = rw (← f, ← e, not-false t h, ← k, eq-eqb b 32 n, first-is, above-zero (first .length) z, ← l, eq-eqb m 32 o, second-is, y)
-
-          module _ (y : second .length ≡ 0 → ⊥) where
-            pub more-bytes : (3 + first .length + second .length ≡ length line → ⊥) → unknown ≡ lineOf line
-            unfolding lineOf need
-            more-bytes w = rw (← f, ← e, not-false t h, ← k, eq-eqb b 32 n, first-is, above-zero (first .length) z, ← l, eq-eqb m 32 o, second-is, above-zero (second .length) y, ne-eqb _ _ w)
-
-            pub all-read : 3 + first .length + second .length ≡ length line → asks form (first .value) (second .value) ≡ lineOf line
-            unfolding lineOf need
-            all-read w = rw (← f, ← e, not-false t h, ← k, eq-eqb b 32 n, first-is, above-zero (first .length) z, ← l, eq-eqb m 32 o, second-is, above-zero (second .length) y, eq-eqb _ _ w)
+    pub known : not found ≡ false → asks form (first .value) (second .value) ≡ lineOf line
+    unfolding lineOf
+    known h = go _ found unknown _ _ found-is h (rw (ef, e1, second-is))
 
 -- ---- a line of more than 25 bytes is of no known form
-past-all : (a b c d e f : Bool) (l : Line) → f ≡ false → need a unknown (need b unknown (need c unknown (need d unknown (need e unknown (need f unknown l))))) ≡ unknown
-unfolding need
-past-all false b c d e f l h = refl
-past-all true false c d e f l h = refl
-past-all true true false d e f l h = refl
-past-all true true true false e f l h = refl
-past-all true true true true false f l h = refl
-past-all true true true true true f l h = rw h
-
 pub too-long : (line : List ℕ) → 25 < length line → lineOf line ≡ unknown
-unfolding lineOf firstOf secondOf
-too-long line h =
-    past-all (isForm (getD line 0 0)) (eqb (getD line 1 0) 32) (ltb 0 (firstOf line .length)) (eqb (getD line (2 + firstOf line .length) 0) 32) (ltb 0 (secondOf line .length)) (eqb (3 + firstOf line .length + secondOf line .length) (length line)) (asks (getD line 0 0) (firstOf line .value) (secondOf line .value))
-    (ne-eqb (3 + firstOf line .length + secondOf line .length) (length line) (λ e. omega (arith, h, e, number-most (drop 2 line), number-most (drop (3 + firstOf line .length) line))))
+unfolding lineOf need
+too-long line h = rw (last-long line (firstOf line .next) (omega (arith, field-most line 2)), and-false (isForm (getD line 0 0) && eqb (getD line 1 0) 32 && firstOf line .found))

@@ -1,4 +1,5 @@
 // What a line of the points program asks: a form's letter and two numbers.
+pub use fields::BLANK;
 ghost use mathlib.Core.Path.{_≡_};
 ghost use Rattle.asked.specs.Asked.{isForm, lineOf};
 
@@ -8,8 +9,6 @@ pub struct Line {
     pub first: i32,
     pub second: i32,
 }
-
-pub const BLANK: u8 = 32;
 
 pub const FORWARD: u8 = 71; // G
 
@@ -28,33 +27,16 @@ pub fn is_form(b: u8) -> bool
 pub fn line_of(line: &[u8]) -> Line
     ensures { λ r. ⌜ r ≡ lineOf (now (line .entry)) ⌝ }
 {
-    let none = Line {
-        form: 0,
-        first: 0,
-        second: 0,
-    };
     let form = decimal::byte_at(line, 0);
-    if !is_form(form) {
-        return none;
-    }
-    if decimal::byte_at(line, 1) != BLANK {
-        return none;
-    }
-    let first = decimal::number_at(line, 2);
-    let length = first.length;
-    if length == 0 {
-        return none;
-    }
-    if decimal::byte_at(line, 2 + length) != BLANK {
-        return none;
-    }
-    let second = decimal::number_at(line, 3 + length);
-    let rest = second.length;
-    if rest == 0 {
-        return none;
-    }
-    if 3 + length + rest != line.len() {
-        return none;
+    let blank = decimal::byte_at(line, 1);
+    let first = fields::field_at(line, 2);
+    let second = fields::last_at(line, first.next);
+    if !(is_form(form) & (blank == BLANK) & first.found & second.found) {
+        return Line {
+            form: 0,
+            first: 0,
+            second: 0,
+        };
     }
     Line {
         form,

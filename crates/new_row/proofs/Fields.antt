@@ -1,26 +1,14 @@
--- The laws of the correction's line: a number with what stands behind it, the five numbers in turn, and what they ask. Assumes nothing.
+-- The laws of the correction's line: the five numbers in turn, and what they ask. Assumes nothing.
 use mathlib.Core.Path.{_≡_, ap, _∙_}
 use mathlib.Core.Bool.{Bool, true, false, not, _&&_}
 use mathlib.Core.List.{List}
-use Prim.Native.Nat.{ℕ, _+_}
-use lib.Dec.{ltb, eqb}
-use lib.ListN.{length, drop, getD}
+use Prim.Native.Nat.{ℕ}
 use Rattle.words.proofs.Refusals.{stop, go}
-use Rattle.decimal.specs.declared.Number.{Number}
-use Rattle.decimal.specs.Reading.{numberOf}
+use Rattle.fields.specs.declared.Field.{Field}
+use Rattle.fields.specs.Fields.{fieldAt, lastAt}
 use Rattle.correct.specs.Correction.{figures, correctionOf, correctedOf}
-use Rattle.new_row.specs.declared.Field.{Field}
 use Rattle.new_row.specs.declared.NewRow.{NewRow}
-use Rattle.new_row.specs.NewRow.{field, fieldAt, lastAt, minuteOf, y0Of, hOf, vOf, aOf, asks, unknown, rowOf, numberOfRow, sheetOfRow, numberBy, sheetBy}
-
--- ---- one number
-pub field-is : (line : List ℕ) (at b : ℕ) (n : Number) → n ≡ numberOf (drop at line) → b ≡ getD line (at + n .length) 0 → field (ltb 0 (n .length) && eqb b 32) (n .value) (at + n .length + 1) ≡ fieldAt line at
-unfolding fieldAt
-field-is line at b n e g = rw (g, e)
-
-pub last-is : (line : List ℕ) (at : ℕ) (n : Number) → n ≡ numberOf (drop at line) → field (ltb 0 (n .length) && eqb (at + n .length) (length line)) (n .value) (at + n .length) ≡ lastAt line at
-unfolding lastAt
-last-is line at n e = rw e
+use Rattle.new_row.specs.NewRow.{minuteOf, y0Of, hOf, vOf, aOf, asks, unknown, rowOf, numberOfRow, sheetOfRow, numberBy, sheetBy}
 
 -- ---- the five in turn: m, y, h, v and a are what the code found
 module _

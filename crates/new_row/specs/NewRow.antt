@@ -1,31 +1,14 @@
 -- The line of the correction program, `minute y0 H V a`, and the correction that it asks for. A line is its bytes without the line feed; numbers stand as in a line of the points
--- program: "one blank between, decimal, optional minus, one to ten digits, within 32 bits".
-use Prim.Native.Nat.{ℕ, _+_}
+-- program.
+use Prim.Native.Nat.{ℕ}
 use mathlib.Core.Bool.{Bool, true, false, _&&_}
 use mathlib.Core.List.{List}
-use lib.Dec.{ltb, eqb}
 use lib.IntN.{ℤ, pos}
-use lib.ListN.{length, drop, getD}
 use Rattle.words.specs.Ladder.{need}
-use Rattle.decimal.specs.Reading.{numberOf}
 use Rattle.correct.specs.Correction.{figures, correctionOf, correctedOf}
-use Rattle.new_row.specs.declared.Field.{Field}
+use Rattle.fields.specs.declared.Field.{Field}
+use Rattle.fields.specs.Fields.{fieldAt, lastAt}
 use Rattle.new_row.specs.declared.NewRow.{NewRow}
-
-abbrev pub field : Bool → ℤ → ℕ → Field
-field found value next = record { found = found; value = value; next = next }
-
--- A number from `at` on and a blank behind it; the next number stands behind the blank.
-unfoldable pub fieldAt : List ℕ → ℕ → Field
-fieldAt line at =
-    let n = numberOf (drop at line) in
-    field (ltb 0 (n .length) && eqb (getD line (at + n .length) 0) 32) (n .value) (at + n .length + 1)
-
--- A number from `at` on and the line's end behind it.
-unfoldable pub lastAt : List ℕ → ℕ → Field
-lastAt line at =
-    let n = numberOf (drop at line) in
-    field (ltb 0 (n .length) && eqb (at + n .length) (length line)) (n .value) (at + n .length)
 
 -- The five numbers, each where the one before it ends.
 abbrev pub minuteOf : List ℕ → Field

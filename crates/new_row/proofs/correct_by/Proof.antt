@@ -4,8 +4,6 @@ use mir.Syntax.{w32}
 use mir.Val.{toZ, ofZ}
 use borrow.Author.Needs.{needs}
 use Rattle.new_row.proofs.Fields.{number-18, sheet-18, number-asked, sheet-asked}
-use Rattle.new_row.proofs.Fields.{number-18, sheet-18, number-asked, sheet-asked}
-use Rattle.new_row.proofs.Fields.{number-18, sheet-18, number-asked, sheet-asked}
 use Rattle.new_row.proofs.correct_by.Statement.{statement}
 use Rattle.new_row.proofs.correct_by.Tie as tie
 

@@ -5,9 +5,6 @@ use mir.Syntax.{w32}
 use mir.Val.{toZ, ofZ}
 use borrow.Author.Needs.{needs}
 use Rattle.new_row.proofs.Fields.{not-known, known}
-use Rattle.new_row.proofs.Fields.{not-known, known}
-use Rattle.new_row.proofs.Fields.{not-known, known}
-use Rattle.new_row.proofs.Fields.{not-known, known}
 use Rattle.new_row.proofs.row_of.Statement.{statement}
 use Rattle.new_row.proofs.row_of.Tie as tie
 

@@ -41,7 +41,10 @@ compare-one-requires : tie.Need-compare-one-requires Inv-loop μ-loop
 compare-one-requires c κs = search needs
 
 add-i : tie.Need-add-i Inv-loop μ-loop
-add-i c = search needs
+add-i c =
+    let turn = c .before .before .before .before .before .before in
+    let first = turn .before .before .before .before .before .before .before .before in
+    record { fits = omega (arith, turn .loop-test .taken, first .pre .5) }
 
 line-end-requires-2 : tie.Need-line-end-requires-2 Inv-loop μ-loop
 line-end-requires-2 c κs = search needs
@@ -56,7 +59,7 @@ loop-again c =
     let l = turn .before .loop in
     let first = turn .before .before .before .before .before .before .before .before in
     let more = one-more (l .inv .0) (first .pre .5) _ (l .inv .1) (turn .loop-test .taken) (put .ensures .2) (put .ensures .0) in
-    (rw (← put .ensures .1) more, c .line-end2 .ensures .0, c .line-end2 .ensures .1, search needs)
+    (rw (put .ensures .1) more, c .line-end2 .ensures .0, c .line-end2 .ensures .1, search needs)
 
 same-length : tie.Need-same-length Inv-loop μ-loop
 same-length c = search needs
@@ -66,7 +69,7 @@ returns c =
     let l = c .before .loop in
     let first = c .before .before .before .before .before .before .before .before in
     let d = finished (l .inv .0) (first .pre .5) _ (l .inv .1) (c .loop-test .left) (l .inv .2) in
-    ((l .inv .0 .inside, omega (arith, l .inv .0 .far, l .inv .0 .inside, first .pre .6), d .rest), d .end-state, d .all)
+    ((l .inv .0 .inside, omega (arith, l .inv .0 .far, l .inv .0 .inside, first .pre .6), d .rest), (d .end-state, d .all))
 
 pub compare-lines-spec : {M : Type 1} → statement M
 compare-lines-spec =

@@ -1,15 +1,13 @@
 -- `samples::copy` meets its contract. Assumes nothing.
 use borrow.Author.Needs.{needs}
 use mathlib.Core.Path.{_≡_}
-use borrow.Author.Tests.{ltb-true}
-use native.Mathlib.Omega.{arith}
-use Prim.Native.Nat.{_-_, _≤_}
+use Prim.Native.Nat.{_-_}
 use lib.ListN.{length, length-set}
 use Rattle.samples.proofs.copy.Statement.{statement}
 use Rattle.samples.proofs.copy.Tie as tie
 
 abbrev Inv-loop : tie.InvT-loop
-Inv-loop bytes room₀ k₀ room k = (k ≤ length room) × (length room ≡ length room₀)
+Inv-loop bytes room₀ k₀ room k = length room ≡ length room₀
 
 abbrev μ-loop : tie.MeasureT-loop
 μ-loop bytes room₀ k₀ room k = length bytes - k
@@ -36,7 +34,7 @@ loop-less : tie.Need-loop-less Inv-loop μ-loop
 loop-less c = search needs
 
 loop-again : tie.Need-loop-again Inv-loop μ-loop
-loop-again c = (simp length-set (omega (arith, ltb-true)), simp length-set (search needs))
+loop-again c = simp length-set (search needs)
 
 same-length : tie.Need-same-length Inv-loop μ-loop
 same-length c = search needs

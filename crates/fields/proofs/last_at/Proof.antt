@@ -1,15 +1,12 @@
--- `new_row::last_at` meets its contract. Assumes nothing.
+-- `fields::last_at` meets its contract. Assumes nothing.
 use mathlib.Core.Path.{_≡_}
 use denote.Ref.{now}
 use mir.Syntax.{w32}
 use mir.Val.{toZ, ofZ}
 use borrow.Author.Needs.{needs}
-use Rattle.new_row.proofs.Fields.{last-is}
-use Rattle.new_row.proofs.Fields.{last-is}
-use Rattle.new_row.proofs.Fields.{last-is}
-use Rattle.new_row.proofs.Fields.{last-is}
-use Rattle.new_row.proofs.last_at.Statement.{statement}
-use Rattle.new_row.proofs.last_at.Tie as tie
+use Rattle.fields.proofs.Fields.{last-is}
+use Rattle.fields.proofs.last_at.Statement.{statement}
+use Rattle.fields.proofs.last_at.Tie as tie
 
 number-at-requires : tie.Need-number-at-requires
 number-at-requires c κs = search needs

@@ -1,18 +1,13 @@
--- `new_row::field_at` meets its contract. Assumes nothing.
+-- `fields::field_at` meets its contract. Assumes nothing.
 use mathlib.Core.Path.{_≡_}
 use denote.Ref.{now}
 use mir.Syntax.{w32}
 use mir.Val.{toZ, ofZ}
 use borrow.Author.Needs.{needs}
 use native.Mathlib.Omega.{arith}
-use Rattle.new_row.proofs.Fields.{field-is}
-use native.Mathlib.Omega.{arith}
-use Rattle.new_row.proofs.Fields.{field-is}
-use native.Mathlib.Omega.{arith}
-use Rattle.new_row.proofs.Fields.{field-is}
-use Rattle.new_row.proofs.Fields.{field-is}
-use Rattle.new_row.proofs.field_at.Statement.{statement}
-use Rattle.new_row.proofs.field_at.Tie as tie
+use Rattle.fields.proofs.Fields.{field-is}
+use Rattle.fields.proofs.field_at.Statement.{statement}
+use Rattle.fields.proofs.field_at.Tie as tie
 
 number-at-requires : tie.Need-number-at-requires
 number-at-requires c κs = search needs

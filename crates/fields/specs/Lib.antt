@@ -1,0 +1,2 @@
+-- A line's numbers.
+pub mod Fields
