@@ -40,6 +40,23 @@ long-name : (name : List ℕ) → 255 < length name → isName name ≡ false
 unfolding isName
 long-name name h = rw (lt-leb (length name) 255 h)
 
+-- ---- nothing but the check's answer where the sheet does not pass
+pub passes-more : (s a b : List ℕ) → wherePasses s a ++ wherePasses s b ≡ wherePasses s (a ++ b)
+unfolding wherePasses whereIs
+passes-more s a b = go (eqb (checkOf s .number) 0)
+  where
+    go : (t : Bool) → cond t a [] ++ cond t b [] ≡ cond t (a ++ b) []
+    go true = refl
+    go false = refl
+
+pub passes-none : (s : List ℕ) → wherePasses s [] ≡ []
+unfolding wherePasses whereIs
+passes-none s = go (eqb (checkOf s .number) 0)
+  where
+    go : (t : Bool) → cond {A = List ℕ} t [] [] ≡ []
+    go true = refl
+    go false = refl
+
 module _ (held : List ℕ → List ℕ) where
   pub name-front : (name : List ℕ) → sheetNamed held (take mostKept name) ≡ sheetNamed held name
   unfolding sheetNamed
@@ -59,22 +76,6 @@ module _ (held : List ℕ → List ℕ) where
   front = record { answered = same-answer; state = same-stage }
 
   -- ---- the lines after the name
-  passes-more : (s a b : List ℕ) → wherePasses s a ++ wherePasses s b ≡ wherePasses s (a ++ b)
-  unfolding wherePasses whereIs
-  passes-more s a b = go (eqb (checkOf s .number) 0)
-    where
-      go : (t : Bool) → cond t a [] ++ cond t b [] ≡ cond t (a ++ b) []
-      go true = refl
-      go false = refl
-
-  passes-none : (s : List ℕ) → wherePasses s [] ≡ []
-  unfolding wherePasses whereIs
-  passes-none s = go (eqb (checkOf s .number) 0)
-    where
-      go : (t : Bool) → cond {A = List ℕ} t [] [] ≡ []
-      go true = refl
-      go false = refl
-
   given-answers : (s : List ℕ) (lines : List (List ℕ)) → answers (points held) (given s) lines ≡ wherePasses s (answersOf s lines)
   unfolding answers answersOf lineAnswer lineStage
   given-answers s [] = sym (passes-none s)

@@ -4,8 +4,8 @@ use mathlib.Core.Bool.{Bool, true, false}
 use mathlib.Core.List.{List, [], _∷_, _++_, append-nil}
 use Prim.Native.Nat.{ℕ, _-_, _≤_}
 use native.Mathlib.Omega.{arith}
-use lib.ListN.{length, take}
-use lib.Seq.{length-take-le}
+use lib.ListN.{length, take, drop}
+use lib.Seq.{slice, length-take-le}
 use Rattle.words.proofs.Refusals.{is, is-not}
 use Rattle.decimal.specs.Writing.{Wrote}
 use Rattle.decimal.proofs.Spelling.{then}
@@ -13,11 +13,12 @@ use Rattle.asked.specs.Asked.{isForm, lineOf}
 use Rattle.differing.specs.Differing.{differingRows}
 use Rattle.reached.specs.Reached.{reaches}
 use Rattle.compared.specs.Compared.{changes, comparedText}
-use Rattle.stream.specs.Stream.{lastLine}
+use Rattle.stream.specs.Stream.{lastLine, endedLines, unended, keptOf, mostKept}
 use Rattle.stream.specs.Pieces.{answers, after, written}
 use Rattle.redone.specs.declared.Tally.{Tally}
 use Rattle.redone.specs.Tallied.{up, upWhere, strayAfter, tallied, countsText}
-use Rattle.redone.specs.Redone.{comparing}
+use Rattle.redone.specs.declared.Done.{Done}
+use Rattle.redone.specs.Redone.{comparing, Compared}
 
 module _ (more : Bool) (n : ℕ) where
   pub one-up : (r : ℕ) → more ≡ true → r ≡ up n → r ≡ upWhere more n
@@ -51,6 +52,13 @@ module _ (s t : List ℕ) (a : Tally) (line : List ℕ) where
 
   pub written-one : (n : ℕ) (old new : List ℕ) (at next : ℕ) → n ≡ up (a .lines) → Wrote old new at next (comparedText s t n (lineOf line)) → Wrote old new at next (comparedText s t (up (a .lines)) (lineOf line))
   written-one n old new at next e w = rw e at w
+
+-- ---- a block of lines
+module _ (s t buffer rest : List ℕ) (from to : ℕ) (a : Tally) (old new : List ℕ) (r : Done) where
+  pub compared : (read : ℕ) → slice read to buffer ≡ unended (slice from to buffer) → Wrote old new 0 (r .at) (answers (comparing s t) a (endedLines (slice from to buffer))) → r .tally ≡ after (comparing s t) a (endedLines (slice from to buffer))
+      → r .kept ≡ length (take mostKept (slice read to buffer)) → rest ≡ take mostKept (slice read to buffer) ++ drop (r .kept) buffer → r .kept ≤ mostKept → r .at ≤ length old → Compared s t buffer rest from to a old new r
+  unfolding keptOf
+  compared read e w c n m l f = record { wrote = w; counted = c; kept = rw e at n; memory = rw e at m; few = l; fits = f }
 
 -- ---- the input's end
 module _ (s t : List ℕ) (a : Tally) where

@@ -1,0 +1,2 @@
+-- One turn of the redo program.
+pub mod Turn
