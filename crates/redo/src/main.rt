@@ -15,6 +15,7 @@ ghost use Rattle.redo.specs.Turn.{Turned};
 
 // Room for the input, and for a changed line to each of its bytes.
 const INPUT: usize = 7_040;
+
 const OUTPUT: usize = 1_084_160;
 
 // The bytes kept of a line that has not ended, the bytes of output to write, the tally, and whether the input has ended or its reading failed.

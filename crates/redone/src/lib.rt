@@ -126,15 +126,7 @@ fn compare_lines(
     let mut tally = h.tally;
     let mut end = stream::line_end(buffer, i, to);
     while end < to {
-        let r = compare_one(
-            old,
-            new,
-            places,
-            &buffer[i..end],
-            tally,
-            out,
-            at,
-        );
+        let r = compare_one(old, new, places, &buffer[i..end], tally, out, at);
         at = r.at;
         tally = r.tally;
         i = end + 1;
