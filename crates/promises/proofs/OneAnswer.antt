@@ -50,6 +50,22 @@ use Rattle.decimal.proofs.byte_at.Kinds as byte-kinds
 use Rattle.decimal.proofs.byte_at.Reads as byte-reads
 use Rattle.decimal.proofs.number_at.Kinds as number-kinds
 use Rattle.decimal.proofs.number_at.Reads as number-reads
+use Rattle.fields.proofs.field_at.Kinds as field-kinds
+use Rattle.fields.proofs.field_at.Reads as field-reads
+use Rattle.fields.proofs.last_at.Kinds as last-kinds
+use Rattle.fields.proofs.last_at.Reads as last-reads
+use Rattle.stream.proofs.line_end.Kinds as end-kinds
+use Rattle.stream.proofs.line_end.Reads as end-reads
+use Rattle.stream.proofs.keep.Kinds as keep-kinds
+use Rattle.stream.proofs.keep.Reads as keep-reads
+use Rattle.blocks.proofs.answer_block.Kinds as block-kinds
+use Rattle.blocks.proofs.answer_block.Reads as block-reads
+use Rattle.blocks.proofs.answer_last.Kinds as rest-kinds
+use Rattle.blocks.proofs.answer_last.Reads as rest-reads
+use Rattle.redone.proofs.compare_block.Kinds as redone-kinds
+use Rattle.redone.proofs.compare_block.Reads as redone-reads
+use Rattle.redone.proofs.compare_last.Kinds as counts-kinds
+use Rattle.redone.proofs.compare_last.Reads as counts-reads
 use Rattle.new_row.proofs.row_of.Kinds as row-kinds
 use Rattle.new_row.proofs.row_of.Reads as row-reads
 use Rattle.new_row.proofs.correct_by.Kinds as row-line-kinds
@@ -141,6 +157,40 @@ one-compared κs given r t x y p q =
     let two = q .1 .1 .1 .1 in
     (rw (p .0 ∙ sym (q .0), p .1 .0 ∙ sym (q .1 .0), p .1 .1 .0 ∙ sym (q .1 .1 .0), one .place ∙ sym (two .place)), one .bytes ∙ sym (two .bytes))
 
+-- `stream::line_end`
+pub one-end : (κs : Lfts 1) (given : Dens κs end-kinds.ps) (r t : resT end-kinds.r κs .Denot) (x y : AtExit (endedOf 1 end-kinds.ps end-kinds.r) κs)
+    → end-reads.Learnt κs given r x → end-reads.Learnt κs given t y → r ≡ t
+one-end κs given r t x y p q = p .0 ∙ sym (q .0)
+
+-- `stream::keep`: one answer, and one content of the buffer
+pub one-keep : (κs : Lfts 1) (given : Dens κs keep-kinds.ps) (r t : resT keep-kinds.r κs .Denot) (x y : AtExit (endedOf 1 keep-kinds.ps keep-kinds.r) κs)
+    → keep-reads.Learnt κs given r x → keep-reads.Learnt κs given t y → (r ≡ t) × (now (x .0) ≡ now (y .0))
+one-keep κs given r t x y p q = let e = p .0 ∙ sym (q .0) in (e, p .1 ∙ rw e (sym (q .1)))
+
+-- `blocks::answer_block`: one answer, and one content of the buffer and of the output's memory
+pub one-block : (κs : Lfts 3) (given : Dens κs block-kinds.ps) (r t : resT block-kinds.r κs .Denot) (x y : AtExit (endedOf 3 block-kinds.ps block-kinds.r) κs)
+    → block-reads.Learnt κs given r x → block-reads.Learnt κs given t y → (r ≡ t) × (now (x .1 .1 .0) ≡ now (y .1 .1 .0)) × (now (x .1 .1 .1 .1 .1 .0) ≡ now (y .1 .1 .1 .1 .1 .0))
+one-block κs given r t x y p q =
+    let e = p .kept ∙ sym (q .kept) in
+    (rw (e, p .wrote .place ∙ sym (q .wrote .place)), p .memory ∙ rw e (sym (q .memory)), p .wrote .bytes ∙ sym (q .wrote .bytes))
+
+-- `blocks::answer_last`: one answer, and one content of the output's memory
+pub one-rest : (κs : Lfts 3) (given : Dens κs rest-kinds.ps) (r t : resT rest-kinds.r κs .Denot) (x y : AtExit (endedOf 3 rest-kinds.ps rest-kinds.r) κs)
+    → rest-reads.Learnt κs given r x → rest-reads.Learnt κs given t y → (r ≡ t) × (now (x .1 .1 .1 .1 .0) ≡ now (y .1 .1 .1 .1 .0))
+one-rest κs given r t x y p q = (p .1 .place ∙ sym (q .1 .place), p .1 .bytes ∙ sym (q .1 .bytes))
+
+-- `redone::compare_block`: one answer, and one content of the buffer and of the output's memory
+pub one-redone : (κs : Lfts 4) (given : Dens κs redone-kinds.ps) (r t : resT redone-kinds.r κs .Denot) (x y : AtExit (endedOf 4 redone-kinds.ps redone-kinds.r) κs)
+    → redone-reads.Learnt κs given r x → redone-reads.Learnt κs given t y → (r ≡ t) × (now (x .1 .1 .1 .0) ≡ now (y .1 .1 .1 .0)) × (now (x .1 .1 .1 .1 .1 .0) ≡ now (y .1 .1 .1 .1 .1 .0))
+one-redone κs given r t x y p q =
+    let e = p .kept ∙ sym (q .kept) in
+    (rw (e, p .wrote .place ∙ sym (q .wrote .place), p .counted ∙ sym (q .counted)), p .memory ∙ rw e (sym (q .memory)), p .wrote .bytes ∙ sym (q .wrote .bytes))
+
+-- `redone::compare_last`: one answer, and one content of the output's memory
+pub one-counts : (κs : Lfts 4) (given : Dens κs counts-kinds.ps) (r t : resT counts-kinds.r κs .Denot) (x y : AtExit (endedOf 4 counts-kinds.ps counts-kinds.r) κs)
+    → counts-reads.Learnt κs given r x → counts-reads.Learnt κs given t y → (r ≡ t) × (now (x .1 .1 .1 .1 .1 .1 .0) ≡ now (y .1 .1 .1 .1 .1 .1 .0))
+one-counts κs given r t x y p q = (rw (p .0 ∙ sym (q .0), p .2 ∙ sym (q .2), p .3 .place ∙ sym (q .3 .place)), p .3 .bytes ∙ sym (q .3 .bytes))
+
 -- `asked::line_of`
 pub one-asked : (κs : Lfts 1) (given : Dens κs asked-kinds.ps) (r t : resT asked-kinds.r κs .Denot) (x y : AtExit (endedOf 1 asked-kinds.ps asked-kinds.r) κs)
     → asked-reads.Learnt κs given r x → asked-reads.Learnt κs given t y → r ≡ t
@@ -155,6 +205,16 @@ one-byte κs given r t x y p q = p ∙ sym q
 pub one-number : (κs : Lfts 1) (given : Dens κs number-kinds.ps) (r t : resT number-kinds.r κs .Denot) (x y : AtExit (endedOf 1 number-kinds.ps number-kinds.r) κs)
     → number-reads.Learnt κs given r x → number-reads.Learnt κs given t y → r ≡ t
 one-number κs given r t x y p q = p .0 ∙ sym (q .0)
+
+-- `fields::field_at`
+pub one-field : (κs : Lfts 1) (given : Dens κs field-kinds.ps) (r t : resT field-kinds.r κs .Denot) (x y : AtExit (endedOf 1 field-kinds.ps field-kinds.r) κs)
+    → field-reads.Learnt κs given r x → field-reads.Learnt κs given t y → r ≡ t
+one-field κs given r t x y p q = p .0 ∙ sym (q .0)
+
+-- `fields::last_at`
+pub one-last : (κs : Lfts 1) (given : Dens κs last-kinds.ps) (r t : resT last-kinds.r κs .Denot) (x y : AtExit (endedOf 1 last-kinds.ps last-kinds.r) κs)
+    → last-reads.Learnt κs given r x → last-reads.Learnt κs given t y → r ≡ t
+one-last κs given r t x y p q = p ∙ sym q
 
 -- `new_row::row_of`
 pub one-row : (κs : Lfts 1) (given : Dens κs row-kinds.ps) (r t : resT row-kinds.r κs .Denot) (x y : AtExit (endedOf 1 row-kinds.ps row-kinds.r) κs)

@@ -153,7 +153,7 @@ fn ask_each(list: &[u8], before: &[u8], after: &[u8], corrected: bool, minute: i
     let n = list.len();
     let mut at = 0;
     while at < n {
-        let end = files::line_end(list, at, n);
+        let end = stream::line_end(list, at, n);
         let line = part(list, at, end);
         if asked::is_form(decimal::byte_at(line, 0)) {
             ask(line, before, after, corrected, minute);
@@ -271,7 +271,7 @@ fn run(script: &[u8]) {
     let mut count = 0;
     let mut at = 0;
     while at < n {
-        let end = files::line_end(script, at, n);
+        let end = stream::line_end(script, at, n);
         let line = part(script, at, end);
         let first = decimal::byte_at(line, 0);
         if is_name(first) {
