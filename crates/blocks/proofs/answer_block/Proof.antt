@@ -4,28 +4,19 @@ use denote.Ref.{now}
 use Rattle.blocks.proofs.Answering.{answered}
 use Rattle.blocks.proofs.answer_block.Statement.{statement}
 use Rattle.blocks.proofs.answer_block.Tie as tie
-use Rattle.blocks.proofs.answer_block.Reads as reads
-use Rattle.blocks.proofs.answer_block.Lts as lts
-use Rattle.blocks.proofs.answer_lines.Reads as answer-lines-reads
-use Rattle.stream.proofs.keep.Reads as keep-reads
 
--- src/lib.rt:49:9
 answer-lines-requires : tie.Need-answer-lines-requires
 answer-lines-requires c κs = search needs
 
--- src/lib.rt:51:9
 keep-requires : tie.Need-keep-requires
 keep-requires c κs = search needs
 
--- src/lib.rt:38:1
 same-length : tie.Need-same-length
 same-length c = search needs
 
--- src/lib.rt:38:1
 same-length-2 : tie.Need-same-length-2
 same-length-2 c = search needs
 
--- src/lib.rt:38:1
 returns : tie.Need-returns
 returns c =
     let kept = c .before .before in

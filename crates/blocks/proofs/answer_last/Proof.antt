@@ -1,41 +1,31 @@
+-- `blocks::answer_last` meets its contract. Assumes nothing.
 use borrow.Author.Needs.{needs}
 use native.Mathlib.Omega.{arith}
 use denote.Ref.{now}
 use Rattle.blocks.proofs.Answering.{last-none, last-line}
--- `blocks::answer_last` meets its contract. Assumes nothing.
 use Rattle.blocks.proofs.answer_last.Statement.{statement}
 use Rattle.blocks.proofs.answer_last.Tie as tie
-use Rattle.blocks.proofs.answer_last.Reads as reads
-use Rattle.blocks.proofs.answer_last.Lts as lts
-use Rattle.lines.proofs.answer.Reads as answer-reads
 
--- src/lib.rt:61:9
 returns : tie.Need-returns
 returns c =
     let first = c .before .before .before .before in
     (omega arith, last-none (now (first .args .s)) _ (now (first .args .buffer)) (now (first .args .out)) (c .if1 .taken))
 
--- src/lib.rt:63:25
 sub-answer : tie.Need-sub-answer
 sub-answer c = search needs
 
--- src/lib.rt:63:25
 part-answer-start : tie.Need-part-answer-start
 part-answer-start c = search needs
 
--- src/lib.rt:63:25
 part-answer-end : tie.Need-part-answer-end
 part-answer-end c = search needs
 
--- src/lib.rt:63:5
 answer-requires : tie.Need-answer-requires
 answer-requires c κs = search needs
 
--- src/lib.rt:56:1
 same-length : tie.Need-same-length
 same-length c = search needs
 
--- src/lib.rt:56:1
 returns-2 : tie.Need-returns-2
 returns-2 c =
     let put = c .before .before .answer in

@@ -14,10 +14,6 @@ use Rattle.blocks.proofs.Working.{Working, start, one-more, finished}
 use Rattle.blocks.proofs.Answering.{answering-is}
 use Rattle.blocks.proofs.answer_lines.Statement.{statement}
 use Rattle.blocks.proofs.answer_lines.Tie as tie
-use Rattle.blocks.proofs.answer_lines.Reads as reads
-use Rattle.blocks.proofs.answer_lines.Lts as lts
-use Rattle.lines.proofs.answer.Reads as answer-reads
-use Rattle.stream.proofs.line_end.Reads as line-end-reads
 
 abbrev Inv-loop : tie.InvT-loop
 Inv-loop s p buffer from to out₀ i₀ at₀ end₀ out i at end = Working (answering s) lineRoom buffer from to tt out₀ out i at tt × (end ≡ i + indexOf 10 (slice i to buffer)) × (end ≤ to) × (length out ≡ length out₀)
@@ -25,46 +21,36 @@ Inv-loop s p buffer from to out₀ i₀ at₀ end₀ out i at end = Working (ans
 abbrev μ-loop : tie.MeasureT-loop
 μ-loop s p buffer from to out₀ i₀ at₀ end₀ out i at end = to - i
 
--- src/lib.rt:28:9
 line-end-requires : tie.Need-line-end-requires Inv-loop μ-loop
 line-end-requires c κs = search needs
 
--- src/lib.rt:29:5
 loop-holds : tie.Need-loop-holds Inv-loop μ-loop
 loop-holds c =
     let first = c .before .before .before .before in
     let a = first .args in
     (start (answering (now (a .s))) lineRoom (now (a .buffer)) _ _ tt (now (a .out)) (first .pre .2), c .line-end .ensures .0, c .line-end .ensures .1, refl)
 
--- src/lib.rt:30:34
 sub-answer : tie.Need-sub-answer Inv-loop μ-loop
 sub-answer c = search needs
 
--- src/lib.rt:30:34
 part-answer-start : tie.Need-part-answer-start Inv-loop μ-loop
 part-answer-start c = search needs
 
--- src/lib.rt:30:34
 part-answer-end : tie.Need-part-answer-end Inv-loop μ-loop
 part-answer-end c = search needs
 
--- src/lib.rt:30:9
 answer-requires : tie.Need-answer-requires Inv-loop μ-loop
 answer-requires c κs = search needs
 
--- src/lib.rt:31:13
 add-i : tie.Need-add-i Inv-loop μ-loop
 add-i c = search needs
 
--- src/lib.rt:32:9
 line-end-requires-2 : tie.Need-line-end-requires-2 Inv-loop μ-loop
 line-end-requires-2 c κs = search needs
 
--- src/lib.rt:29:5
 loop-less : tie.Need-loop-less Inv-loop μ-loop
 loop-less c = search needs
 
--- src/lib.rt:29:5
 loop-again : tie.Need-loop-again Inv-loop μ-loop
 loop-again c =
     let put = c .before .before .before .answer in
@@ -73,11 +59,9 @@ loop-again c =
     let first = turn .before .before .before .before .before .before in
     (one-more (l .inv .0) (first .pre .3) _ (l .inv .1) (turn .loop-test .taken) (put .ensures .1) (put .ensures .0), c .line-end2 .ensures .0, c .line-end2 .ensures .1, put .kept .1 .1 .1 .0 ∙ l .inv .3)
 
--- src/lib.rt:22:1
 same-length : tie.Need-same-length Inv-loop μ-loop
 same-length c = search needs
 
--- src/lib.rt:22:1
 returns : tie.Need-returns Inv-loop μ-loop
 returns c =
     let l = c .before .loop in
