@@ -1,6 +1,6 @@
 // The correction program. Standard input: the name of a sheet's file, the name of the file to write, then one line `minute y0 H V a`. Standard output: the correction's number.
-// Where it is 0 the corrected sheet stands, whole, under the second name. The sheet's own file is opened for reading alone. Where the input cannot be read to its end nothing is corrected and no
-// number is printed: the line may be cut.
+// Where it is 0 the corrected sheet stands, whole, under the second name. The sheet's own file is opened for reading alone. Where a read fails nothing is corrected and
+// no number is printed: the line may be cut.
 use files::Line;
 use files::MOST_NAME;
 ghost use Prim.Native.Nat.{_+_, _<_, _≤_};
@@ -176,7 +176,7 @@ fn only_line(line: Line, more: usize) -> usize
     line.end
 }
 
-// The line of the figures, with the input read to its end, and the correction by it. The bytes from `from` to `to` are read.
+// Reads the line of the figures and looks for more behind it, and corrects by it. The bytes from `from` to `to` are read.
 fn run_by(sheet: &mut [u8], name: &[u8], input: &mut [u8], from: usize, to: usize)
     requires { ⌜ (from ≤ to) × (to ≤ length (now input)) × (256 < length (now input)) ⌝ }
 {
