@@ -1,4 +1,5 @@
--- "Points program": what it prints for a whole input. `held` gives the bytes that the system holds under a file's name, none where it cannot be read.
+-- "Points program": what it prints for a whole input. `held` gives the bytes that the system holds under a file's name, none where it cannot be read. (The program reads no more than 65,536 of them:
+-- from 65,533 on the check's answer is 1 0 0.)
 use Prim.Native.Nat.{ℕ}
 use mathlib.Core.Bool.{Bool, cond, _&&_}
 use mathlib.Core.List.{List, [], _∷_, _++_}

@@ -17,11 +17,17 @@ pub struct Done {
     pub at: usize,
 }
 
+// Where the line that has not ended begins, and how many bytes of answers stand at the output's front.
+struct Lines {
+    rest: usize,
+    at: usize,
+}
+
 // Answers the buffer's lines from `from` to `to` that have ended; where the last one begins, which has not, and how many bytes of answers there are. A line takes a byte or more, its line feed, so
 // that an output with room for an answer to each byte has room for all.
-fn answer_lines(s: &[u8], p: Places, buffer: &[u8], from: usize, to: usize, out: &mut [u8]) -> Done
+fn answer_lines(s: &[u8], p: Places, buffer: &[u8], from: usize, to: usize, out: &mut [u8]) -> Lines
     requires { ⌜ (checkOf (now s) .number ≡ 0) × (p ≡ placesOf (now s)) × (from ≤ to) × (to ≤ length (now buffer)) × (lineRoom * to ≤ length (now out)) ⌝ }
-    ensures { λ r. ⌜ (r .kept ≤ to) × (r .at ≤ length (now (out .entry))) × (slice (r .kept) to (now (buffer .entry)) ≡ unended (slice from to (now (buffer .entry)))) × Wrote (now (out .entry)) (now (out .exit)) 0 (r .at) (answersOf (now (s .entry)) (endedLines (slice from to (now (buffer .entry))))) ⌝ }
+    ensures { λ r. ⌜ (r .rest ≤ to) × (r .at ≤ length (now (out .entry))) × (slice (r .rest) to (now (buffer .entry)) ≡ unended (slice from to (now (buffer .entry)))) × Wrote (now (out .entry)) (now (out .exit)) 0 (r .at) (answersOf (now (s .entry)) (endedLines (slice from to (now (buffer .entry))))) ⌝ }
 {
     let mut i = from;
     let mut at = 0;
@@ -31,7 +37,7 @@ fn answer_lines(s: &[u8], p: Places, buffer: &[u8], from: usize, to: usize, out:
         i = end + 1;
         end = stream::line_end(buffer, i, to);
     }
-    Done { kept: i, at }
+    Lines { rest: i, at }
 }
 
 // Answers the buffer's lines from `from` to `to` that have ended, and keeps the one that has not. The sheet is known to pass.
@@ -48,7 +54,7 @@ pub fn answer_block(
 {
     let d = answer_lines(s, p, buffer, from, to, out);
     let at = d.at;
-    let kept = stream::keep(buffer, d.kept, to);
+    let kept = stream::keep(buffer, d.rest, to);
     Done { kept, at }
 }
 

@@ -1,19 +1,21 @@
--- One turn of the points program's loop, on a sheet s that passes: a piece of the input comes behind the kept bytes, and its lines are answered.
-use Prim.Native.Nat.{ℕ, _≤_}
+-- One turn of the points program's loop, on a sheet s that passes: bytes are read behind those that are kept, and the lines that have ended are answered.
+use Prim.Native.Nat.{ℕ, _<_, _≤_}
 use mathlib.Core.Path.{_≡_}
 use mathlib.Core.Bool.{true, false}
-use mathlib.Core.List.{List, _++_}
+use mathlib.Core.List.{List}
 use lib.ListN.{length, take}
 use Rattle.decimal.specs.Writing.{Wrote}
-use Rattle.stream.specs.Stream.{lastLine, endedLines, keptOf, mostKept}
-use Rattle.blocks.specs.Blocks.{answersOf}
+use Rattle.stream.specs.Stream.{lastLine, mostKept}
+use Rattle.blocks.specs.Blocks.{answersOf, Answered}
 use Rattle.points.specs.declared.State.{State}
 
 pub record Turned (s buffer after : List ℕ) (kept : ℕ) (old new : List ℕ) (r : State) : Type 0 where
-  -- the piece that the system gave
-  pub piece : List ℕ
-  -- as long as there is more, the answers are those to the lines that have ended, and what is kept is what stands behind them
-  pub more : r .ended ≡ false → Wrote old new 0 (r .at) (answersOf s (endedLines (take kept buffer ++ piece))) × (take (r .kept) after ≡ keptOf (take kept buffer ++ piece))
+  -- the buffer after the read: the kept bytes as they were, and more behind them, up to `to`. That the system gave these, no contract can say.
+  pub read : List ℕ
+  pub to : ℕ
+  pub stays : take kept read ≡ take kept buffer
+  -- as long as there is more, its lines that have ended are answered, and the one that has not is kept
+  pub more : r .ended ≡ false → (kept < to) × (to ≤ length read) × Answered s read after 0 to old new (record { kept = r .kept; at = r .at })
   -- at the input's end, the answer is that to what is left; where the read failed, there is none
   pub last : r .ended ≡ true → r .failed ≡ false → Wrote old new 0 (r .at) (answersOf s (lastLine (take kept buffer)))
   pub none : r .failed ≡ true → r .at ≡ 0

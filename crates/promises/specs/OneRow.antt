@@ -1,5 +1,5 @@
--- Demand 3 without the correction's own writer: which sheets a correction of row r reaches from s, and what the lent sheet holds after it. s passes, and r is a row of its latitude
--- body, counted from 0; t is another sheet. Words are numbered from the sheet's start, and byte q lies in word q / 4.
+-- Demand 3 by the check and by the words that may differ: which sheets a correction of row r reaches from s. Only `put-in` names the writer. But for `RefusedStays`, s passes and r is a
+-- row of its latitude body, counted from 0; t is any sheet. Words are numbered from the sheet's start, and byte q lies in word q / 4.
 use mathlib.Core.Path.{_≡_}
 use mathlib.Core.List.{List}
 use mathlib.Core.Logic.{_⊎_}
@@ -41,14 +41,14 @@ abbrev pub Bytes : List ℕ → Type 0
 Bytes t = (q : ℕ) → getD t q 0 < 256
 
 pub record Reaches (s : List ℕ) (r : ℕ) : Type 0 where
-  -- Every sheet t that passes and is s but for the row: it is accepted, and what is written is t, byte for byte.
+  -- Every sheet t that passes and is s but for the row: the correction to t's figures is accepted, and the lent sheet is then t, byte for byte.
   pub every : (t : List ℕ) → Bytes t → Passes t → ButFor s t r → (correctionOf s (minuteIn s r) (figuresIn t r) ≡ 0) × (correctedOf s (minuteIn s r) (figuresIn t r) ≡ t)
-  -- And no other: after a correction that was accepted the sheet is one of these, with f in the row, and holds bytes where s does.
+  -- And no other: after a correction that was accepted the sheet is one of these, with f in the row, and is a list of bytes if s is one.
   pub no-other : (f : Figures) → correctionOf s (minuteIn s r) f ≡ 0
       → let t = correctedOf s (minuteIn s r) f in Passes t × ButFor s t r × (figuresIn t r ≡ f) × (Bytes s → Bytes t)
   -- The row keeps its minute, accepted or refused.
   pub keeps-minute : (f : Figures) → minuteIn (correctedOf s (minuteIn s r) f) r ≡ minuteIn s r
-  -- What `putIn` holds, of figures that are refused too.
+  -- `putIn` too is s but for these words, even of figures that are refused.
   pub put-in : (f : Figures) → ButFor s (putIn s (minuteIn s r) f) r
 
 abbrev pub ReachesRows : Type 0

@@ -106,7 +106,14 @@ fn compare_one(
     Counted { at: r.next, tally }
 }
 
-// Compares the lines that are held and have ended; where the last one begins, which has not, how many bytes of output there are, and the tally.
+// Where the line that has not ended begins, how many bytes of output there are, and the tally.
+struct Lines {
+    rest: usize,
+    at: usize,
+    tally: Tally,
+}
+
+// Compares the lines that are held and have ended.
 fn compare_lines(
     old: &[u8],
     new: &[u8],
@@ -114,9 +121,9 @@ fn compare_lines(
     buffer: &[u8],
     h: Held,
     out: &mut [u8],
-) -> Done
+) -> Lines
     requires { ⌜ (checkOf (now old) .number ≡ 0) × (places .old ≡ placesOf (now old)) × (checkOf (now new) .number ≡ 0) × (places .new ≡ placesOf (now new)) × (h .from ≤ h .to) × (h .to ≤ length (now buffer)) × (changeRoom * h .to ≤ length (now out)) ⌝ }
-    ensures place { λ r. ⌜ (r .kept ≤ h .to) × (r .at ≤ length (now (out .entry))) × (slice (r .kept) (h .to) (now (buffer .entry)) ≡ unended (slice (h .from) (h .to) (now (buffer .entry)))) ⌝ }
+    ensures place { λ r. ⌜ (r .rest ≤ h .to) × (r .at ≤ length (now (out .entry))) × (slice (r .rest) (h .to) (now (buffer .entry)) ≡ unended (slice (h .from) (h .to) (now (buffer .entry)))) ⌝ }
     ensures counted { λ r. ⌜ r .tally ≡ after (comparing (now (old .entry)) (now (new .entry))) (h .tally) (endedLines (slice (h .from) (h .to) (now (buffer .entry)))) ⌝ }
     ensures text { λ r. ⌜ Wrote (now (out .entry)) (now (out .exit)) 0 (r .at) (answers (comparing (now (old .entry)) (now (new .entry))) (h .tally) (endedLines (slice (h .from) (h .to) (now (buffer .entry))))) ⌝ }
 {
@@ -132,7 +139,7 @@ fn compare_lines(
         i = end + 1;
         end = stream::line_end(buffer, i, to);
     }
-    Done { kept: i, at, tally }
+    Lines { rest: i, at, tally }
 }
 
 // Compares the lines that are held and have ended, and keeps the one that has not.
@@ -150,7 +157,7 @@ pub fn compare_block(
     let d = compare_lines(old, new, places, buffer, h, out);
     let at = d.at;
     let tally = d.tally;
-    let kept = stream::keep(buffer, d.kept, h.to);
+    let kept = stream::keep(buffer, d.rest, h.to);
     Done { kept, at, tally }
 }
 

@@ -25,8 +25,8 @@ module _ {A : Type 0} (w : Way A) where
   unfoldable pub written : A → List (List ℕ) → List ℕ
   written a lines = answers a lines ++ w .close (after a lines)
 
-  -- What is written for an input that comes in pieces, pieces of no bytes among them: each time the answers to the lines that have ended, at the input's end to what is left. `kept` is what is held
-  -- of the line that has not ended.
+  -- What is written for an input that comes in pieces, pieces of no bytes among them: after each piece the answers to the lines that have ended by then; at the input's end the answer to what is left,
+  -- and the closing text. `kept` is what is held of the line that has not ended.
   unfoldable pub inPieces : A → List ℕ → List (List ℕ) → List ℕ
   inPieces a kept [] = written a (lastLine kept)
   inPieces a kept (piece ∷ pieces) =

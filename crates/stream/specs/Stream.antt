@@ -36,7 +36,7 @@ unendedFrom line (b ∷ text) = cond (eqb b 10) (unendedFrom [] text) (unendedFr
 abbrev pub unended : List ℕ → List ℕ
 unended text = unendedFrom [] text
 
--- The most bytes that are kept of it: one more than a file's name has, and more than any line of a known form.
+-- The most bytes that are kept of it: one more than the longest name, 255, and more than the longest line of a known form, 25.
 abbrev pub mostKept : ℕ
 mostKept = 256
 

@@ -7,7 +7,7 @@ ghost use lib.ListN.{length, take, drop};
 
 pub const LINE_FEED: u8 = 10;
 
-// The most bytes that are kept of a line that has not ended: one more than a file's name has, and more than any line of a known form.
+// The most bytes that are kept of a line that has not ended: one more than the longest name, 255, and more than the longest line of a known form, 25.
 pub const MOST_KEPT: usize = 256;
 
 ghost use Rattle.bytes.specs.Bytes.{indexOf};

@@ -24,7 +24,7 @@ returns c =
     let first = done .before .before .before .before .before .before in
     let a = first .args in
     let d = done .answer-lines .ensures in
-    answered (now (a .s)) (now (a .buffer)) _ _ _ (now (a .out)) _ _ (done .answer-lines .result .kept) (d .2) (d .3) (kept .keep .ensures .0) (kept .keep .ensures .1) (kept .keep .ensures .2) (d .1)
+    answered (now (a .s)) (now (a .buffer)) _ _ _ (now (a .out)) _ _ (done .answer-lines .result .rest) (d .2) (d .3) (kept .keep .ensures .0) (kept .keep .ensures .1) (kept .keep .ensures .2) (d .1)
 
 pub answer-block-spec : {M : Type 1} → statement M
 answer-block-spec =

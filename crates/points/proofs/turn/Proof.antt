@@ -20,19 +20,19 @@ same-length-2 c = search needs
 returns : tie.Need-returns
 returns c =
     let d = c .before .before .before .before in
-    let read = d .before .before .before .before .before .before in
-    let first = read .before .before .before .before .before in
-    let a = first .args in
-    on (now (a .sheet)) (now (a .input)) _ (a .kept) (now (a .out)) _ _ _ _ (read .read-on .ensures .2) (read .read-on .ensures .0) (d .answer-block .ensures)
+    let known = d .before .before .before in
+    let read = d .before .before .before .before .before .before .read-on in
+    let a = d .before .before .before .before .before .before .before .before .before .before .before .args in
+    on (now (a .sheet)) (now (a .input)) _ (a .kept) (now (a .out)) _ _ _ (read .ensures .2) _ (known .if1 .taken) (read .ensures .1) (d .answer-block .ensures)
 
 same-length-3 : tie.Need-same-length-3
 same-length-3 c = search needs
 
 returns-2 : tie.Need-returns-2
 returns-2 c =
-    let first = c .before .before .before .before .before .before .before .before .before in
-    let a = first .args in
-    failed (now (a .sheet)) (now (a .input)) _ (a .kept) (now (a .out)) _
+    let read = c .before .before .before .before .read-on in
+    let a = c .before .before .before .before .before .before .before .before .before .args in
+    failed (now (a .sheet)) (now (a .input)) _ (a .kept) (now (a .out)) _ _ (read .result .to) (read .ensures .2)
 
 answer-last-requires : tie.Need-answer-last-requires
 answer-last-requires c κs = search needs
@@ -46,10 +46,9 @@ same-length-5 c = search needs
 returns-3 : tie.Need-returns-3
 returns-3 c =
     let last = c .before .before in
-    let read = last .before .before .before .before .before .before .before in
-    let first = read .before .before .before .before .before in
-    let a = first .args in
-    done (now (a .sheet)) (now (a .input)) _ (a .kept) (now (a .out)) _ _ _ (read .read-on .ensures .2) (last .answer-last .ensures .0) (last .answer-last .ensures .1)
+    let read = last .before .before .before .before .before .before .before .read-on in
+    let a = last .before .before .before .before .before .before .before .before .before .before .before .before .args in
+    done (now (a .sheet)) (now (a .input)) _ (a .kept) (now (a .out)) _ _ (read .result .to) (read .ensures .2) _ (last .answer-last .ensures .0) (last .answer-last .ensures .1)
 
 pub turn-spec : {M : Type 1} → statement M
 turn-spec =

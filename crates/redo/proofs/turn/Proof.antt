@@ -20,17 +20,19 @@ same-length-2 c = search needs
 returns : tie.Need-returns
 returns c =
     let d = c .before .before .before .before .before in
-    let read = d .before .before .before .before .before .before in
-    let a = read .before .before .before .before .before .before .args in
-    on (now (a .old)) (now (a .new)) (now (a .input)) _ (a .kept) (a .a) (now (a .out)) _ _ _ _ (read .read-on .ensures .2) (read .read-on .ensures .0) (d .compare-block .ensures)
+    let known = d .before .before .before in
+    let read = d .before .before .before .before .before .before .read-on in
+    let a = d .before .before .before .before .before .before .before .before .before .before .before .before .args in
+    on (now (a .old)) (now (a .new)) (now (a .input)) _ (a .kept) (a .a) (now (a .out)) _ _ _ (read .ensures .2) _ (known .if1 .taken) (read .ensures .1) (d .compare-block .ensures)
 
 same-length-3 : tie.Need-same-length-3
 same-length-3 c = search needs
 
 returns-2 : tie.Need-returns-2
 returns-2 c =
+    let read = c .before .before .before .before .read-on in
     let a = c .before .before .before .before .before .before .before .before .before .before .args in
-    failed (now (a .old)) (now (a .new)) (now (a .input)) _ (a .kept) (a .a) (now (a .out)) _
+    failed (now (a .old)) (now (a .new)) (now (a .input)) _ (a .kept) (a .a) (now (a .out)) _ _ (read .result .to) (read .ensures .2)
 
 compare-last-requires : tie.Need-compare-last-requires
 compare-last-requires c κs = search needs
@@ -44,10 +46,10 @@ same-length-5 c = search needs
 returns-3 : tie.Need-returns-3
 returns-3 c =
     let end = c .before .before .before in
-    let read = end .before .before .before .before .before .before .before in
-    let a = read .before .before .before .before .before .before .args in
+    let read = end .before .before .before .before .before .before .before .read-on in
+    let a = end .before .before .before .before .before .before .before .before .before .before .before .before .before .args in
     let d = end .compare-last .ensures in
-    done (now (a .old)) (now (a .new)) (now (a .input)) _ (a .kept) (a .a) (now (a .out)) _ _ _ _ (read .read-on .ensures .2) (d .1) (d .2) (d .3)
+    done (now (a .old)) (now (a .new)) (now (a .input)) _ (a .kept) (a .a) (now (a .out)) _ _ (read .result .to) (read .ensures .2) _ _ (d .1) (d .2) (d .3)
 
 pub turn-spec : {M : Type 1} → statement M
 turn-spec =

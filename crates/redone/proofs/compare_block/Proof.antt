@@ -24,7 +24,7 @@ returns c =
     let first = done .before .before .before .before .before .before .before in
     let a = first .args in
     let d = done .compare-lines .ensures in
-    compared (now (a .old)) (now (a .new)) (now (a .buffer)) _ _ _ _ (now (a .out)) _ _ (done .compare-lines .result .kept) (d .0 .2) (d .1 .1) (d .1 .0) (kept .keep .ensures .0) (kept .keep .ensures .1) (kept .keep .ensures .2) (d .0 .1)
+    compared (now (a .old)) (now (a .new)) (now (a .buffer)) _ _ _ _ (now (a .out)) _ _ (done .compare-lines .result .rest) (d .0 .2) (d .1 .1) (d .1 .0) (kept .keep .ensures .0) (kept .keep .ensures .1) (kept .keep .ensures .2) (d .0 .1)
 
 pub compare-block-spec : {M : Type 1} → statement M
 compare-block-spec =
