@@ -14,7 +14,7 @@ use Rattle.lines.specs.Lines.{ended, answerLine, valuesOf}
 unfoldable pub sameValues : Values → Values → Bool
 sameValues v w = eqb (v .number) (w .number) && sameAs (v .first) (w .first) && sameAs (v .second) (w .second)
 
--- The line is answered otherwise on the new sheet: another number, or another value.
+-- The new sheet gives the line another answer: another number, or another value.
 unfoldable pub changes : List ℕ → List ℕ → Line → Bool
 changes s t l = not (sameValues (valuesOf s l) (valuesOf t l))
 

@@ -1,4 +1,4 @@
--- Which latitude rows of an old sheet, s, are otherwise in a new one, t. b and c are their latitude bodies, of n and m rows; i is a row of the old, counted from 0.
+-- Which latitude rows of an old sheet, s, are different in a new one, t. b and c are their latitude bodies, of n and m rows; i is a row of the old, counted from 0.
 use mathlib.Core.Bool.{Bool, true, false, not, cond, _&&_, _||_}
 use mathlib.Core.List.{List, [], _∷_, _++_}
 use Prim.Native.Nat.{ℕ, zero, suc}

@@ -20,7 +20,7 @@ fn same_figures(f: Figures, g: Figures) -> bool
         & rules::same_as(f.a, g.a)
 }
 
-// Whether row i of the old latitude body b is otherwise in the new one, c, of m rows, or not there.
+// Whether row i of the old latitude body b is different in the new one, c, of m rows, or missing there.
 fn row_differs(b: &[u8], i: usize, c: &[u8], m: usize) -> bool
     requires { ⌜ (32 * i + 32 ≤ length (now b)) × (0 < m) × (32 * m ≤ length (now c)) ⌝ }
     ensures { λ r. ⌜ r ≡ rowDiffers (now (b .entry)) (now (c .entry)) m i ⌝ }
@@ -33,7 +33,7 @@ fn row_differs(b: &[u8], i: usize, c: &[u8], m: usize) -> bool
     !same_figures(rows::figures_at(b, i), rows::figures_at(c, j))
 }
 
-// Whether the old latitude body b, of n rows, has a row with the minute, and that row is otherwise in the new one, c, of m rows, or not there.
+// Whether the old latitude body b, of n rows, has a row with the minute, and that row is different in the new one, c, of m rows, or missing there.
 fn differs_in(b: &[u8], n: usize, c: &[u8], m: usize, minute: i32) -> bool
     requires { ⌜ (0 < n) × (32 * n ≤ length (now b)) × (0 < m) × (32 * m ≤ length (now c)) ⌝ }
     ensures { λ r. ⌜ r ≡ differsAt (now (b .entry)) n (now (c .entry)) m minute ⌝ }
@@ -68,7 +68,7 @@ fn differs_between(old: &[u8], place: Place, new: &[u8], other: Place, minute: i
     differs_beside(&old[a..z], n, new, other, minute)
 }
 
-// Whether the old sheet has a latitude row with the minute, and that row is otherwise in the new one, or not there. Both sheets are known to pass, with their places.
+// Whether the old sheet has a latitude row with the minute, and that row is different in the new one, or missing there. Both sheets are known to pass, with their places.
 pub fn differs_at(old: &[u8], p: Places, new: &[u8], q: Places, minute: i32) -> bool
     requires { ⌜ (checkOf (now old) .number ≡ 0) × (p ≡ placesOf (now old)) × (checkOf (now new) .number ≡ 0) × (q ≡ placesOf (now new)) ⌝ }
     ensures { λ r. ⌜ r ≡ isDiffering (now (old .entry)) (now (new .entry)) minute ⌝ }

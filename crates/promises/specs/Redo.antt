@@ -12,7 +12,7 @@ use Rattle.reached.specs.Reached.{reaches}
 use Rattle.compared.specs.Compared.{changes}
 use Rattle.promises.specs.Corrections.{Passes}
 
--- After a correction that was accepted, on a sheet that passes, every line whose answer changes counts among those that are reached, by the rows in which the sheets differ: who redoes the reached ones misses none.
+-- After a correction that was accepted, on a sheet that passes, every line whose answer changes counts among those that are reached, by the rows in which the sheets differ. To redo the reached ones is to miss none.
 abbrev pub NoneMissed : Type 0
 NoneMissed =
     (s : List ℕ) → Passes s → (minute : ℤ) (f : Figures) → correctionOf s minute f ≡ 0
