@@ -15,9 +15,9 @@ pub record Turned (s buffer after : List ℕ) (kept : ℕ) (old new : List ℕ) 
   pub to : ℕ
   pub stays : take kept read ≡ take kept buffer
   -- as long as there is more, its lines that have ended are answered, and the one that has not is kept
-  pub more : r .ended ≡ false → (kept < to) × (to ≤ length read) × Answered s read after 0 to old new (record { kept = r .kept; at = r .at })
+  pub more : r .ended ≡ false → (kept < to) × (to ≤ length read) × Answered s read after 0 to old new (r .done)
   -- at the input's end, the answer is that to what is left; where the read failed, there is none
-  pub last : r .ended ≡ true → r .failed ≡ false → Wrote old new 0 (r .at) (answersOf s (lastLine (take kept buffer)))
-  pub none : r .failed ≡ true → r .at ≡ 0
-  pub few : r .kept ≤ mostKept
-  pub fits : r .at ≤ length old
+  pub last : r .ended ≡ true → r .failed ≡ false → Wrote old new 0 (r .done .at) (answersOf s (lastLine (take kept buffer)))
+  pub none : r .failed ≡ true → r .done .at ≡ 0
+  pub few : r .done .kept ≤ mostKept
+  pub fits : r .done .at ≤ length old

@@ -1,5 +1,6 @@
 // The points program, a filter. Standard input: the name of the sheet's file, then a line for each point. Standard output: the check's answer and, where it is 0, an answer for each line. What has
 // come in is answered before more is read.
+use blocks::Done;
 use entries::Places;
 ghost use mathlib.Core.Path.{_≡_};
 ghost use Prim.Native.Nat.{_*_, _≤_, _<_};
@@ -15,10 +16,9 @@ const INPUT: usize = 16_640;
 
 const OUTPUT: usize = 1_098_240;
 
-// The bytes kept of a line that has not ended, the bytes of answers to write, and whether the input has ended or its reading failed.
+// What a turn left, and whether the input has ended or its reading failed.
 struct State {
-    kept: usize,
-    at: usize,
+    done: Done,
     ended: bool,
     failed: bool,
 }
@@ -31,26 +31,23 @@ fn turn(sheet: &[u8], p: Places, input: &mut [u8], kept: usize, out: &mut [u8]) 
     let more = files::read_on(input, kept);
     let to = more.to;
     if kept < to {
-        let d = blocks::answer_block(sheet, p, input, 0, to, out);
+        let done = blocks::answer_block(sheet, p, input, 0, to, out);
         return State {
-            kept: d.kept,
-            at: d.at,
+            done,
             ended: false,
             failed: false,
         };
     }
     if more.failed {
         return State {
-            kept: 0,
-            at: 0,
+            done: Done { kept: 0, at: 0 },
             ended: true,
             failed: true,
         };
     }
     let at = blocks::answer_last(sheet, p, input, kept, out);
     State {
-        kept: 0,
-        at,
+        done: Done { kept: 0, at },
         ended: true,
         failed: false,
     }
@@ -61,20 +58,19 @@ fn turn(sheet: &[u8], p: Places, input: &mut [u8], kept: usize, out: &mut [u8]) 
 fn answer_input(sheet: &[u8], p: Places, input: &mut [u8], from: usize, to: usize, out: &mut [u8])
     requires { ⌜ (checkOf (now sheet) .number ≡ 0) × (p ≡ placesOf (now sheet)) × (from ≤ to) × (to ≤ length (now input)) × (mostKept < length (now input)) × (lineRoom * length (now input) ≤ length (now out)) ⌝ }
 {
-    let d = blocks::answer_block(sheet, p, input, from, to, out);
+    let done = blocks::answer_block(sheet, p, input, from, to, out);
     let mut s = State {
-        kept: d.kept,
-        at: d.at,
+        done,
         ended: false,
         failed: false,
     };
     let mut turns = u64::MAX;
     while 0 < turns {
-        let at = s.at;
+        let at = s.done.at;
         if !files::tell(&out[0..at]) | s.ended {
             return;
         }
-        s = turn(sheet, p, input, s.kept, out);
+        s = turn(sheet, p, input, s.done.kept, out);
         turns -= 1;
     }
 }

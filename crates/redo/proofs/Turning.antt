@@ -18,12 +18,12 @@ never : {A : Type 0} → true ≡ false → A
 never e = let z : _≡_ {A = ℕ} 0 1 = cc in absurd (omega arith)
 
 module _ (s t buffer next : List ℕ) (kept : ℕ) (a : Tally) (old new read : List ℕ) (to : ℕ) (e : take kept read ≡ take kept buffer) where
-  pub on : (d : Done) → kept < to → to ≤ length read → Compared s t read next 0 to a old new d → Turned s t buffer next kept a old new (record { kept = d .kept; at = d .at; tally = d .tally; ended = false; failed = false })
+  pub on : (d : Done) → kept < to → to ≤ length read → Compared s t read next 0 to a old new d → Turned s t buffer next kept a old new (record { done = d; ended = false; failed = false })
   on d h l c = record { read = read; to = to; stays = e; more = λ z. (h, l, c); last = λ z. never (sym z); none = λ z. never (sym z); few = c .few; fits = c .fits }
 
-  pub failed : Turned s t buffer next kept a old new (record { kept = 0; at = 0; tally = a; ended = true; failed = true })
+  pub failed : Turned s t buffer next kept a old new (record { done = record { kept = 0; at = 0; tally = a }; ended = true; failed = true })
   failed = record { read = read; to = to; stays = e; more = λ z. never z; last = λ z f. never f; none = λ z. (refl, refl); few = omega arith; fits = omega arith }
 
-  pub done : (at : ℕ) (r : Tally) → at ≤ length old → r ≡ after (comparing s t) a (lastLine (take kept read)) → Wrote old new 0 at (written (comparing s t) a (lastLine (take kept read)))
-      → Turned s t buffer next kept a old new (record { kept = 0; at = at; tally = r; ended = true; failed = false })
-  done at r l c w = record { read = read; to = to; stays = e; more = λ z. never z; last = λ z f. (rw e at w, rw e at c); none = λ z. never (sym z); few = omega arith; fits = l }
+  pub done : (d : Done) → d .kept ≡ 0 → d .at ≤ length old → d .tally ≡ after (comparing s t) a (lastLine (take kept read)) → Wrote old new 0 (d .at) (written (comparing s t) a (lastLine (take kept read)))
+      → Turned s t buffer next kept a old new (record { done = d; ended = true; failed = false })
+  done d n l c w = record { read = read; to = to; stays = e; more = λ z. never z; last = λ z f. (rw e at w, rw e at c); none = λ z. never (sym z); few = omega (arith, n); fits = l }

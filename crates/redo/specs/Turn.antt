@@ -17,9 +17,9 @@ pub record Turned (s t buffer next : List ℕ) (kept : ℕ) (a : Tally) (old new
   pub to : ℕ
   pub stays : take kept read ≡ take kept buffer
   -- as long as there is more, its lines that have ended are compared and counted, and the one that has not is kept
-  pub more : r .ended ≡ false → (kept < to) × (to ≤ length read) × Compared s t read next 0 to a old new (record { kept = r .kept; at = r .at; tally = r .tally })
+  pub more : r .ended ≡ false → (kept < to) × (to ≤ length read) × Compared s t read next 0 to a old new (r .done)
   -- at the input's end, so is what is left, and the counts are behind it; where the read failed, nothing is written
-  pub last : r .ended ≡ true → r .failed ≡ false → Wrote old new 0 (r .at) (written (comparing s t) a (lastLine (take kept buffer))) × (r .tally ≡ after (comparing s t) a (lastLine (take kept buffer)))
-  pub none : r .failed ≡ true → (r .at ≡ 0) × (r .tally ≡ a)
-  pub few : r .kept ≤ mostKept
-  pub fits : r .at ≤ length old
+  pub last : r .ended ≡ true → r .failed ≡ false → Wrote old new 0 (r .done .at) (written (comparing s t) a (lastLine (take kept buffer))) × (r .done .tally ≡ after (comparing s t) a (lastLine (take kept buffer)))
+  pub none : r .failed ≡ true → (r .done .at ≡ 0) × (r .done .tally ≡ a)
+  pub few : r .done .kept ≤ mostKept
+  pub fits : r .done .at ≤ length old

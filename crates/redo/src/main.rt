@@ -2,6 +2,7 @@
 // check's answer for each sheet and, where both are 0, each line whose answer changes, with both answers, and at the end how many points there were, how many changed and how many the correction may
 // touch. Standard error: how many lines were of no known form. What has come in is compared before more is read.
 use compared::BothPlaces;
+use redone::Done;
 use redone::Held;
 use redone::Tally;
 ghost use mathlib.Core.Path.{_≡_};
@@ -18,11 +19,9 @@ const INPUT: usize = 7_040;
 
 const OUTPUT: usize = 1_084_160;
 
-// The bytes kept of a line that has not ended, the bytes of output to write, the tally, and whether the input has ended or its reading failed.
+// What a turn left, and whether the input has ended or its reading failed.
 struct State {
-    kept: usize,
-    at: usize,
-    tally: Tally,
+    done: Done,
     ended: bool,
     failed: bool,
 }
@@ -51,31 +50,27 @@ fn turn(
             to,
             tally: a,
         };
-        let d = redone::compare_block(old, new, places, input, h, out);
-        let tally = d.tally;
+        let done = redone::compare_block(old, new, places, input, h, out);
         return State {
-            kept: d.kept,
-            at: d.at,
-            tally,
+            done,
             ended: false,
             failed: false,
         };
     }
     if more.failed {
         return State {
-            kept: 0,
-            at: 0,
-            tally: a,
+            done: Done {
+                kept: 0,
+                at: 0,
+                tally: a,
+            },
             ended: true,
             failed: true,
         };
     }
-    let d = redone::compare_last(old, new, places, input, kept, a, out);
-    let tally = d.tally;
+    let done = redone::compare_last(old, new, places, input, kept, a, out);
     State {
-        kept: 0,
-        at: d.at,
-        tally,
+        done,
         ended: true,
         failed: false,
     }
@@ -93,26 +88,23 @@ fn compare_input(
 ) -> Tally
     requires { ⌜ (checkOf (now old) .number ≡ 0) × (places .old ≡ placesOf (now old)) × (checkOf (now new) .number ≡ 0) × (places .new ≡ placesOf (now new)) × (h .from ≤ h .to) × (h .to ≤ length (now input)) × (mostKept < length (now input)) × (changeRoom * length (now input) ≤ length (now out)) ⌝ }
 {
-    let d = redone::compare_block(old, new, places, input, h, out);
-    let first = d.tally;
+    let done = redone::compare_block(old, new, places, input, h, out);
     let mut s = State {
-        kept: d.kept,
-        at: d.at,
-        tally: first,
+        done,
         ended: false,
         failed: false,
     };
     let mut turns = u64::MAX;
     while 0 < turns {
-        let at = s.at;
-        let a = s.tally;
+        let at = s.done.at;
+        let a = s.done.tally;
         if !files::tell(&out[0..at]) | s.ended {
             return a;
         }
-        s = turn(old, new, places, input, s.kept, a, out);
+        s = turn(old, new, places, input, s.done.kept, a, out);
         turns -= 1;
     }
-    s.tally
+    s.done.tally
 }
 
 // Says how many lines were of no known form, and the number of the first one, where there were any.

@@ -10,7 +10,7 @@ use Rattle.points.proofs.answer_input.Statement.{statement}
 use Rattle.points.proofs.answer_input.Tie as tie
 
 abbrev Inv-loop : tie.InvT-loop
-Inv-loop sheet p input₀ from to out₀ s₀ turns₀ input out s turns = (s .kept ≤ mostKept) × (s .at ≤ length out) × (length input ≡ length input₀) × (length out ≡ length out₀) × (mostKept < length input) × (lineRoom * length input ≤ length out)
+Inv-loop sheet p input₀ from to out₀ s₀ turns₀ input out s turns = (s .done .kept ≤ mostKept) × (s .done .at ≤ length out) × (length input ≡ length input₀) × (length out ≡ length out₀) × (mostKept < length input) × (lineRoom * length input ≤ length out)
 
 abbrev μ-loop : tie.MeasureT-loop
 μ-loop sheet p input₀ from to out₀ s₀ turns₀ input out s turns = turns

@@ -9,7 +9,7 @@ use Rattle.redo.proofs.compare_input.Statement.{statement}
 use Rattle.redo.proofs.compare_input.Tie as tie
 
 abbrev Inv-loop : tie.InvT-loop
-Inv-loop old new places input₀ out₀ s₀ turns₀ input out s turns = (s .kept ≤ mostKept) × (s .at ≤ length out) × (length input ≡ length input₀) × (length out ≡ length out₀) × (mostKept < length input) × (changeRoom * length input ≤ length out)
+Inv-loop old new places input₀ out₀ s₀ turns₀ input out s turns = (s .done .kept ≤ mostKept) × (s .done .at ≤ length out) × (length input ≡ length input₀) × (length out ≡ length out₀) × (mostKept < length input) × (changeRoom * length input ≤ length out)
 
 abbrev μ-loop : tie.MeasureT-loop
 μ-loop old new places input₀ out₀ s₀ turns₀ input out s turns = turns
@@ -44,7 +44,7 @@ returns c = search needs
 turn-requires : tie.Need-turn-requires Inv-loop μ-loop
 turn-requires c κs =
     let l = c .before .before .before .before .before .before .before .before .before .loop in
-    let first = c .before .before .before .before .before .before .before .before .before .before .before .before .before .before .before .before .before .before .before .before .before .before in
+    let first = c .before .before .before .before .before .before .before .before .before .before .before .before .before .before .before .before .before .before .before .before .before in
     (first .pre .0, first .pre .1, first .pre .2, first .pre .3, l .inv .0, l .inv .4, l .inv .5)
 
 sub-turns : tie.Need-sub-turns Inv-loop μ-loop

@@ -19,7 +19,7 @@ same-length-2 c = search needs
 
 returns : tie.Need-returns
 returns c =
-    let d = c .before .before .before .before .before in
+    let d = c .before .before .before .before in
     let known = d .before .before .before in
     let read = d .before .before .before .before .before .before .read-on in
     let a = d .before .before .before .before .before .before .before .before .before .before .before .before .args in
@@ -45,11 +45,11 @@ same-length-5 c = search needs
 
 returns-3 : tie.Need-returns-3
 returns-3 c =
-    let end = c .before .before .before in
+    let end = c .before .before in
     let read = end .before .before .before .before .before .before .before .read-on in
     let a = end .before .before .before .before .before .before .before .before .before .before .before .before .before .args in
     let d = end .compare-last .ensures in
-    done (now (a .old)) (now (a .new)) (now (a .input)) _ (a .kept) (a .a) (now (a .out)) _ _ (read .result .to) (read .ensures .2) _ _ (d .1) (d .2) (d .3)
+    done (now (a .old)) (now (a .new)) (now (a .input)) _ (a .kept) (a .a) (now (a .out)) _ _ (read .result .to) (read .ensures .2) _ (d .0) (d .1) (d .2) (d .3)
 
 pub turn-spec : {M : Type 1} → statement M
 turn-spec =
