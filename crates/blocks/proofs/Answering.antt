@@ -10,11 +10,9 @@ use Rattle.decimal.specs.Writing.{Wrote}
 use Rattle.lines.specs.Lines.{answerText}
 use Rattle.stream.specs.Stream.{lastLine, endedLines, unended, mostKept, keptOf}
 use Rattle.stream.specs.Pieces.{answers}
+use Rattle.stream.proofs.Cases.{lent}
 use Rattle.blocks.specs.declared.Done.{Done}
 use Rattle.blocks.specs.Blocks.{answering, answersOf, Answered}
-
-pub lent : (n : ℕ) (buffer : List ℕ) → take (n - 0) buffer ≡ take n buffer
-lent n buffer = let z : n - 0 ≡ n = omega arith in rw z
 
 -- ---- answers one after another
 pub answering-is : (s : List ℕ) (lines : List (List ℕ)) → answers (answering s) tt lines ≡ answersOf s lines

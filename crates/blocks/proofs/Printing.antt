@@ -16,6 +16,7 @@ use Rattle.asked.proofs.Forms.{too-long}
 use Rattle.lines.specs.Lines.{answerText}
 use Rattle.stream.specs.Stream.{linesOf, mostKept}
 use Rattle.stream.specs.Pieces.{Way, answers, after, written, inPieces, ByFront, joined}
+use Rattle.stream.proofs.Cases.{split}
 use Rattle.stream.proofs.Joining.{in-pieces}
 use Rattle.blocks.specs.Blocks.{answersOf}
 use Rattle.blocks.specs.Printed.{isName, sheetNamed, checkText, wherePasses, printedTo, printed, Stage, unnamed, given, lineAnswer, lineStage, closing, points}
@@ -24,11 +25,6 @@ use Rattle.blocks.specs.Printed.{isName, sheetNamed, checkText, wherePas
 short-or-long : (line : List ℕ) → (take mostKept line ≡ line) ⊎ ((mostKept ≤ length line) × (length (take mostKept line) ≡ mostKept))
 short-or-long line = go (split mostKept (length line))
   where
-    split : (a b : ℕ) → (a ≤ b) ⊎ (b ≤ a)
-    split zero b = inl (omega arith)
-    split (suc a) zero = inr (omega arith)
-    split (suc a) (suc b) = ⊎-elim (λ h. inl (omega (arith, h))) (λ h. inr (omega (arith, h))) (split a b)
-
     go : (mostKept ≤ length line) ⊎ (length line ≤ mostKept) → (take mostKept line ≡ line) ⊎ ((mostKept ≤ length line) × (length (take mostKept line) ≡ mostKept))
     go (inl h) = inr (h, length-take-le mostKept line h)
     go (inr h) = inl (take-all mostKept line h)

@@ -7,13 +7,11 @@ use native.Mathlib.Omega.{arith}
 use lib.ListN.{length, take}
 use Rattle.decimal.specs.Writing.{Wrote}
 use Rattle.stream.specs.Stream.{lastLine}
+use Rattle.stream.proofs.Cases.{never}
 use Rattle.blocks.specs.declared.Done.{Done}
 use Rattle.blocks.specs.Blocks.{answersOf, Answered}
 use Rattle.points.specs.declared.State.{State}
 use Rattle.points.specs.Turn.{Turned}
-
-never : {A : Type 0} → true ≡ false → A
-never e = let z : _≡_ {A = ℕ} 0 1 = cc in absurd (omega arith)
 
 module _ (s buffer after : List ℕ) (kept : ℕ) (old new read : List ℕ) (to : ℕ) (e : take kept read ≡ take kept buffer) where
   pub on : (d : Done) → kept < to → to ≤ length read → Answered s read after 0 to old new d → Turned s buffer after kept old new (record { done = d; ended = false; failed = false })

@@ -8,14 +8,12 @@ use lib.ListN.{length, take}
 use Rattle.decimal.specs.Writing.{Wrote}
 use Rattle.stream.specs.Stream.{lastLine}
 use Rattle.stream.specs.Pieces.{after, written}
+use Rattle.stream.proofs.Cases.{never}
 use Rattle.redone.specs.declared.Tally.{Tally}
 use Rattle.redone.specs.declared.Done.{Done}
 use Rattle.redone.specs.Redone.{comparing, Compared}
 use Rattle.redo.specs.declared.State.{State}
 use Rattle.redo.specs.Turn.{Turned}
-
-never : {A : Type 0} → true ≡ false → A
-never e = let z : _≡_ {A = ℕ} 0 1 = cc in absurd (omega arith)
 
 module _ (s t buffer next : List ℕ) (kept : ℕ) (a : Tally) (old new read : List ℕ) (to : ℕ) (e : take kept read ≡ take kept buffer) where
   pub on : (d : Done) → kept < to → to ≤ length read → Compared s t read next 0 to a old new d → Turned s t buffer next kept a old new (record { done = d; ended = false; failed = false })

@@ -15,6 +15,7 @@ use Rattle.reached.specs.Reached.{reaches}
 use Rattle.compared.specs.Compared.{changes, comparedText}
 use Rattle.stream.specs.Stream.{lastLine, endedLines, unended, keptOf, mostKept}
 use Rattle.stream.specs.Pieces.{answers, after, written}
+use Rattle.stream.proofs.Cases.{lent}
 use Rattle.redone.specs.declared.Tally.{Tally}
 use Rattle.redone.specs.Tallied.{up, upWhere, strayAfter, tallied, countsText}
 use Rattle.redone.specs.declared.Done.{Done}
@@ -75,9 +76,6 @@ module _ (s t : List ℕ) (a : Tally) where
   unfolding lastLine answers
   last-answers [] h = absurd (h refl)
   last-answers (b ∷ line) h = append-nil (comparedText s t (up (a .lines)) (lineOf (b ∷ line)))
-
-  lent : (n : ℕ) (buffer : List ℕ) → take (n - 0) buffer ≡ take n buffer
-  lent n buffer = let z : n - 0 ≡ n = omega arith in rw z
 
   pub one-left : (n : ℕ) (buffer old new : List ℕ) (at : ℕ) (r : Tally) → n ≤ length buffer → (n ≡ 0 → ⊥) → r ≡ tallied s t a (lineOf (take (n - 0) buffer)) → Wrote old new 0 at (comparedText s t (up (a .lines)) (lineOf (take (n - 0) buffer)))
       → (r ≡ after (comparing s t) a (lastLine (take n buffer))) × Wrote old new 0 at (answers (comparing s t) a (lastLine (take n buffer)))

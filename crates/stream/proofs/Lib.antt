@@ -1,3 +1,4 @@
+pub mod Cases
 pub mod Splitting
 pub mod Joining
 pub mod Moving

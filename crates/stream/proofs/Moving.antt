@@ -1,13 +1,14 @@
 -- Bytes moved to the buffer's front. Assumes nothing.
 use mathlib.Core.Path.{_≡_, refl, sym, ap, _∙_}
 use mathlib.Core.List.{List, [], _∷_, _++_}
-use mathlib.Core.Logic.{_⊎_, inl, inr, ⊎-elim}
+use mathlib.Core.Logic.{_⊎_, inl, inr}
 use Prim.Native.Nat.{ℕ, zero, suc, _+_, _-_, _≤_, _<_, min}
 use native.Mathlib.Omega.{arith}
 use native.Mathlib.Numerals.{add-one}
 use lib.ListN.{length, take, drop, getD, set, length-drop}
 use lib.Seq.{take-nil, take-all, take-take, drop-nil, getD-drop, slice, length-slice, length-take-le}
 use Rattle.stream.specs.Stream.{mostKept}
+use Rattle.stream.proofs.Cases.{split}
 
 pub take-of-drop : (from k : ℕ) (l : List ℕ) → take k (drop from l) ≡ drop from (take (from + k) l)
 take-of-drop zero k l = let e : 0 + k ≡ k = omega arith in rw e
@@ -45,11 +46,6 @@ pub moved-all : (old now : List ℕ) (from i n : ℕ) → i ≤ n → n ≤ i �
 moved-all old now from i n h k e = let f : i ≡ n = omega arith in rw f at e
 
 -- what is kept
-split : (a b : ℕ) → (a ≤ b) ⊎ (b ≤ a)
-split zero b = inl (omega arith)
-split (suc a) zero = inr (omega arith)
-split (suc a) (suc b) = ⊎-elim (λ h. inl (omega (arith, h))) (λ h. inr (omega (arith, h))) (split a b)
-
 module _ (old : List ℕ) (from to n : ℕ) (a : from ≤ to) (b : to ≤ length old) (e : n ≡ min (to - from) mostKept) where
   pub kept-is : take n (drop from old) ≡ take mostKept (slice from to old)
   kept-is = go (split mostKept (to - from))

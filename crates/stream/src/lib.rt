@@ -35,7 +35,8 @@ fn move_front(buffer: &mut [u8], from: usize, n: usize)
     }
 }
 
-fn least(a: usize, b: usize) -> usize
+// The lesser of two counts.
+pub fn least(a: usize, b: usize) -> usize
     ensures { λ r. ⌜ r ≡ min a b ⌝ }
 {
     if a < b {
