@@ -1,12 +1,12 @@
 -- What the points program prints, line by line, for an input in any pieces. Assumes nothing.
 use mathlib.Core.Path.{_≡_, refl, sym, ap, _∙_}
-use mathlib.Core.Bool.{Bool, true, false, cond, _&&_}
+use mathlib.Core.Bool.{Bool, true, false, cond}
 use mathlib.Core.List.{List, [], _∷_, _++_, append-nil, append-assoc}
 use mathlib.Core.Logic.{_⊎_, inl, inr, ⊎-elim}
-use Prim.Native.Nat.{ℕ, zero, suc, _≤_, _<_}
+use Prim.Native.Nat.{ℕ, _≤_, _<_}
 use native.Mathlib.Omega.{arith}
 use borrow.Author.Tests.{lt-leb}
-use lib.Dec.{leb, eqb}
+use lib.Dec.{eqb}
 use lib.ListN.{length, take}
 use lib.Seq.{take-all, length-take-le}
 use Rattle.words.specs.Ladder.{whereIs}
@@ -15,7 +15,7 @@ use Rattle.asked.specs.Asked.{lineOf}
 use Rattle.asked.proofs.Forms.{too-long}
 use Rattle.lines.specs.Lines.{answerText}
 use Rattle.stream.specs.Stream.{linesOf, mostKept}
-use Rattle.stream.specs.Pieces.{Way, answers, after, written, inPieces, ByFront, joined}
+use Rattle.stream.specs.Pieces.{answers, after, written, inPieces, ByFront, joined}
 use Rattle.stream.proofs.Cases.{split}
 use Rattle.stream.proofs.Joining.{in-pieces}
 use Rattle.blocks.specs.Blocks.{answersOf}

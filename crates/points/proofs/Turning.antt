@@ -10,7 +10,6 @@ use Rattle.stream.specs.Stream.{lastLine}
 use Rattle.stream.proofs.Cases.{never}
 use Rattle.blocks.specs.declared.Done.{Done}
 use Rattle.blocks.specs.Blocks.{answersOf, Answered}
-use Rattle.points.specs.declared.State.{State}
 use Rattle.points.specs.Turn.{Turned}
 
 module _ (s buffer after : List ℕ) (kept : ℕ) (old new read : List ℕ) (to : ℕ) (e : take kept read ≡ take kept buffer) where

@@ -12,7 +12,6 @@ use Rattle.stream.proofs.Cases.{never}
 use Rattle.redone.specs.declared.Tally.{Tally}
 use Rattle.redone.specs.declared.Done.{Done}
 use Rattle.redone.specs.Redone.{comparing, Compared}
-use Rattle.redo.specs.declared.State.{State}
 use Rattle.redo.specs.Turn.{Turned}
 
 module _ (s t buffer next : List ℕ) (kept : ℕ) (a : Tally) (old new read : List ℕ) (to : ℕ) (e : take kept read ≡ take kept buffer) where

@@ -1,6 +1,5 @@
 -- `correction::only_line` meets its contract. Assumes nothing.
 use borrow.Author.Needs.{needs}
-use mathlib.Core.Path.{sym}
 use Rattle.correction.proofs.only_line.Statement.{statement}
 use Rattle.correction.proofs.only_line.Tie as tie
 
