@@ -1,7 +1,7 @@
 /* Bannerscale: zone sheets of the 1927 state plane system, checked, and survey points converted with them by the Coast and Geodetic Survey's printed steps.
  *
- * Every function takes any bytes as a sheet and any numbers as a point, gives a definite answer and is proved to give the one that the definitions state; a refusal
- * has its number, the first fault's, and writes nothing. The functions keep no state, call nothing of the system, allocate nothing and may run in any thread at once.
+ * Every function accepts any bytes as a sheet and any numbers as a point, and its answer is proved to be the defined one. A refused call gives the number of the first
+ * fault and writes nothing; within a batch, a refused point gets its number and zeros. The functions keep no state, call nothing of the system, allocate nothing and may run in any thread at once.
  *
  * Memory. A sheet, points and answers are lent for the call: a pointer and how many elements it reaches. The pointer has to reach that many, the elements have to be
  * initialised and aligned as their type asks. Memory that a function writes must overlap no other that is lent to the same call, nor be used by another thread meanwhile. A null pointer

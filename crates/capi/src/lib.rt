@@ -1,4 +1,4 @@
-// The library for C: each public operation under a plain name, its answer in a struct that is laid out as C lays it out. include/bannerscale.h declares it. A slice is a
+// The library for C: twelve public operations, each under a plain name, its answer in a struct that is laid out as C lays it out. include/bannerscale.h declares it. A slice is a
 // pointer and a length there; a null pointer with length 0 is an empty one.
 use door::Answer;
 use door::Point;

@@ -1,5 +1,5 @@
-// What a program takes from the system and hands to it: a named file's bytes and standard input, into lent memory, and standard output. No contract can say what is read or written: each says how far
-// it reaches, and that what stood before stays. Where the system refuses, standard error says why.
+// What a program takes from the system and hands to it: a named file's bytes and standard input, into lent memory, and standard output. No contract can say what is read or written. The
+// readers say how far they reach; `read_on` and the reads under it also say that what stood before stays. Where the system refuses, standard error says why.
 use libc::EINTR;
 use libc::STDERR_FILENO;
 use libc::STDIN_FILENO;

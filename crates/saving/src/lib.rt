@@ -1,5 +1,5 @@
 // A file saved under its name, whole or not at all: it is written under a temporary name in the same folder, brought to the disk, and then renamed. What stands under the name already is looked at
-// first: an ordinary file hands its mode on, and anything else stays as it is. No contract can say what the system does; the functions that work on memory alone say what they answer.
+// first: an ordinary file hands its mode on, and anything else stays as it is. No contract can say what the system does; the functions that make a name or a path say what they answer.
 use files::MOST_NAME;
 use libc::PATH_MAX;
 use libc::types::stat;
@@ -196,7 +196,7 @@ fn remove(temporary: &[u8]) {
 }
 
 // Writes the bytes to the new file `temporary`, open as fd, and then gives it the name. Where the system refuses any of that, standard error says why, and no file is left but what stood under the
-// name.
+// name, unless the new one cannot be removed.
 fn save_open(fd: i32, temporary: &[u8], name: &[u8], content: &[u8], mode: u32) -> bool {
     let written = write_whole(fd, content, mode);
     if !written {

@@ -45,7 +45,7 @@ pub fn least(a: usize, b: usize) -> usize
     b
 }
 
-// Keeps the line that has not ended, from `from` to `to`, at the buffer's front, as far as it is asked for; how many bytes are kept.
+// Keeps the line that has not ended, from `from` to `to`, at the buffer's front, its first 256 bytes; how many bytes are kept.
 pub fn keep(buffer: &mut [u8], from: usize, to: usize) -> usize
     requires { ⌜ (from ≤ to) × (to ≤ length (now buffer)) ⌝ }
     ensures { λ r. ⌜ (r ≡ length (take mostKept (slice from to (now (buffer .entry))))) × (now (buffer .exit) ≡ take mostKept (slice from to (now (buffer .entry))) ++ drop r (now (buffer .entry))) × (r ≤ mostKept) ⌝ }
