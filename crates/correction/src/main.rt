@@ -26,7 +26,9 @@ fn print(number: u32) -> bool {
 fn run(sheet: &mut [u8], name: &[u8], line: &[u8]) {
     let number = new_row::correct_by(sheet, line);
     if number == UNKNOWN {
-        files::say(b"the line is not of the form: minute y0 H V a\n");
+        files::say(
+            b"the third line is not of the form minute y0 H V a, or there is more behind it\n",
+        );
     }
     if number == 0 {
         if !files::is_open() {

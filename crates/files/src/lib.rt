@@ -5,8 +5,11 @@ use libc::STDERR_FILENO;
 use libc::STDIN_FILENO;
 use libc::STDOUT_FILENO;
 ghost use mathlib.Core.Path.{_≡_};
+ghost use mathlib.Core.Bool.{true};
+ghost use mathlib.Core.List.{_++_, map};
 ghost use Prim.Native.Nat.{_+_, _<_, _≤_};
-ghost use lib.ListN.{length, take};
+ghost use lib.ListN.{length, take, drop};
+ghost use Rattle.files.specs.Shown.{shownByte};
 
 // The most bytes of a file's name.
 pub const MOST_NAME: usize = 255;
@@ -37,6 +40,88 @@ pub fn is_open() -> bool {
 // Writes a text to standard error.
 pub fn say(text: &[u8]) {
     io::write_all(STDERR_FILENO, text);
+}
+
+// ---- names
+
+// The byte as it is shown: a question mark for one that would move a terminal's cursor or begin a command to it.
+fn shown(b: u8) -> u8
+    ensures { λ r. ⌜ r ≡ shownByte b ⌝ }
+{
+    if (b < 32) | (b == 127) {
+        return b'?';
+    }
+    b
+}
+
+// The name's bytes as they are shown, at the front of the memory.
+fn put_shown(name: &[u8], memory: &mut [u8])
+    requires { ⌜ length (now name) ≤ length (now memory) ⌝ }
+    ensures { λ _. ⌜ now (memory .exit) ≡ map shownByte (now (name .entry)) ++ drop (length (now (name .entry))) (now (memory .entry)) ⌝ }
+{
+    let mut i = 0;
+    while i < name.len() {
+        let b = shown(name[i]);
+        memory[i] = b;
+        i += 1;
+    }
+}
+
+// Writes to standard error what could not be done with the file of the name, and the system's reason.
+pub fn fail(what: &[u8], name: &[u8])
+    requires { ⌜ length (now name) < 256 ⌝ }
+{
+    let mut text = [0u8; 256];
+    let n = name.len();
+    put_shown(name, &mut text);
+    say(what);
+    os::fail(&text[0..n]);
+}
+
+// The same with a reason of our own.
+pub fn refuse(what: &[u8], name: &[u8], why: &[u8])
+    requires { ⌜ length (now name) < 256 ⌝ }
+{
+    let mut text = [0u8; 256];
+    let n = name.len();
+    put_shown(name, &mut text);
+    say(what);
+    say(&text[0..n]);
+    say(why);
+}
+
+// Writes to standard error what cannot be done, and why.
+fn cannot(what: &[u8], why: &[u8]) {
+    say(what);
+    say(why);
+}
+
+// Whether the name is one that a file may have: of 1 to 255 bytes, none of them 0. Where it is not, standard error says what cannot be done, and why.
+pub fn is_name(what: &[u8], name: &[u8]) -> bool
+    ensures { λ r. ⌜ (r ≡ true → length (now (name .entry)) < 256) ⌝ }
+{
+    if name.len() == 0 {
+        cannot(what, b": its name is empty\n");
+        return false;
+    }
+    if MOST_NAME < name.len() {
+        cannot(what, b": its name has more than 255 bytes\n");
+        return false;
+    }
+    if bytes::scan::find(name, 0, name.len(), 0) < name.len() {
+        cannot(what, b": its name has a zero byte\n");
+        return false;
+    }
+    true
+}
+
+// Whether the name's last byte is a carriage return, which no terminal shows.
+pub fn ends_in_return(name: &[u8]) -> bool {
+    let n = name.len();
+    if n == 0 {
+        return false;
+    }
+    name[n - 1] == CARRIAGE_RETURN
 }
 
 // ---- reading
@@ -120,42 +205,21 @@ fn read_sheet(fd: i32, sheet: &mut [u8]) -> Got
     }
 }
 
-// Whether the name's last byte is a carriage return, which no terminal shows.
-fn ends_in_return(name: &[u8]) -> bool {
-    let n = name.len();
-    if n == 0 {
-        return false;
-    }
-    name[n - 1] == CARRIAGE_RETURN
-}
-
 // Says which file could not be read, and why.
-fn say_unread(name: &[u8]) {
-    say(b"cannot read the sheet ");
-    os::fail(name);
+fn say_unread(name: &[u8])
+    requires { ⌜ length (now name) < 256 ⌝ }
+{
+    fail(b"cannot read the sheet ", name);
     if ends_in_return(name) {
         say(b"its name ends in a carriage return\n");
     }
 }
 
-// Whether the name is one that a file may have: of at most 255 bytes, none of them 0.
-fn is_name(name: &[u8]) -> bool {
-    if MOST_NAME < name.len() {
-        say(b"cannot read the sheet: its name has more than 255 bytes\n");
-        return false;
-    }
-    if bytes::scan::find(name, 0, name.len(), 0) < name.len() {
-        say(b"cannot read the sheet: its name has a zero byte\n");
-        return false;
-    }
-    true
-}
-
-// The named file's bytes in the buffer; none where the name is too long or has a zero byte, or the file cannot be read.
+// The named file's bytes in the buffer; none where the name is empty or too long or has a zero byte, or the file cannot be read.
 pub fn load(name: &[u8], sheet: &mut [u8]) -> usize
     ensures { λ r. ⌜ r ≤ length (now (sheet .exit)) ⌝ }
 {
-    if !is_name(name) {
+    if !is_name(b"cannot read the sheet", name) {
         return 0;
     }
     let fd = os::open_read(name);

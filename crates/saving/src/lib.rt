@@ -1,11 +1,10 @@
 // A file saved under its name, whole or not at all: it is written under a temporary name in the same folder, brought to the disk, and then renamed. What stands under the name already is looked at
-// first: an ordinary file hands its mode on, and anything else stays as it is. No contract can say what the system does; the functions that make a name or a path say what they answer.
-use files::MOST_NAME;
+// first: an ordinary file hands on its permissions and its owner, and anything else stays as it is. No contract can say what the system does; the functions that make a name or a path say what they answer.
 use libc::PATH_MAX;
 use libc::types::stat;
 use libc::types::timespec;
 ghost use mathlib.Core.Path.{_≡_};
-ghost use mathlib.Core.Bool.{cond, true};
+ghost use mathlib.Core.Bool.{cond};
 ghost use mathlib.Core.List.{_++_};
 ghost use Prim.Native.Nat.{_+_, _<_, _≤_};
 ghost use lib.Dec.{eqb};
@@ -27,7 +26,20 @@ const NEW_MODE: u32 = 0o644;
 // The bits of a mode that are handed on: who may read, write and run the file.
 const PERMISSIONS: u32 = 0o777;
 
+// To `fchown`, an owner or a group that is to stay as it is.
+const AS_IT_IS: u32 = u32::MAX;
+
+// What cannot be done, in a message.
+const CANNOT: [u8; 13] = *b"cannot write ";
+
 // ---- what stands under a name
+
+// The mode of what stands under a name, which has its kind in it, its owner and its group. The mode is 0, which is no file's, where the system told nothing.
+struct Standing {
+    mode: u32,
+    owner: u32,
+    group: u32,
+}
 
 // What `lstat` fills in.
 fn blank() -> stat {
@@ -54,20 +66,28 @@ fn blank() -> stat {
     }
 }
 
-// The mode that `lstat` told, which has the file's kind in it; 0, which is no file's mode, where it failed.
-fn mode_by(status: i32, told: stat) -> u32 {
+// What `lstat` told, where it did not fail.
+fn standing_by(status: i32, told: stat) -> Standing {
     if status < 0 {
-        return 0;
+        return Standing {
+            mode: 0,
+            owner: 0,
+            group: 0,
+        };
     }
-    told.st_mode
+    Standing {
+        mode: told.st_mode,
+        owner: told.st_uid,
+        group: told.st_gid,
+    }
 }
 
-// The mode of what stands at the path, a link's own.
-fn mode_at(path: &[u8; PATH_MAX], mut told: stat) -> u32
+// What stands at the path; of a link, the link itself.
+fn standing_at(path: &[u8; PATH_MAX], mut told: stat) -> Standing
     requires { ⌜ Ended (now path) ⌝ }
 {
     let status = libc::lstat(path, &mut told);
-    mode_by(status, told)
+    standing_by(status, told)
 }
 
 // The name as the system takes it, with zeros behind it.
@@ -80,51 +100,54 @@ fn path_of(name: &[u8]) -> [u8; PATH_MAX]
     path
 }
 
-// The mode of what stands under the name; 0 where the system tells none, and errno says why.
-fn mode_of(name: &[u8]) -> u32
+// What stands under the name. Where the system tells nothing, errno says why.
+fn standing_under(name: &[u8]) -> Standing
     requires { ⌜ length (now name) < 256 ⌝ }
 {
     let path = path_of(name);
-    mode_at(&path, blank())
+    standing_at(&path, blank())
 }
 
-// Whether a file may be saved under a name, and the mode that it is to have.
+// Whether a file may be saved under a name, and the mode, owner and group that it is to have.
 struct Leave {
     given: bool,
     mode: u32,
+    owner: u32,
+    group: u32,
 }
 
-fn refused() -> Leave {
+// Leave for a new name, where it is given.
+fn leave_anew(given: bool) -> Leave {
     Leave {
-        given: false,
-        mode: 0,
+        given,
+        mode: NEW_MODE,
+        owner: AS_IT_IS,
+        group: AS_IT_IS,
     }
 }
 
-// A new name may be taken, and an ordinary file replaced, whose mode is handed on. A folder, a link or a device stays: standard error says so.
+// A new name may be taken, and an ordinary file replaced, whose permissions, owner and group are handed on. Anything else stays: standard error says so.
 fn leave_for(name: &[u8]) -> Leave
     requires { ⌜ length (now name) < 256 ⌝ }
 {
-    let mode = mode_of(name);
+    let there = standing_under(name);
+    let mode = there.mode;
     if mode == 0 {
         if os::errno() == libc::ENOENT {
-            return Leave {
-                given: true,
-                mode: NEW_MODE,
-            };
+            return leave_anew(true);
         }
-        say_unwritten(name);
-        return refused();
+        files::fail(&CANNOT, name);
+        return leave_anew(false);
     }
     if mode & libc::S_IFMT != libc::S_IFREG {
-        files::say(b"cannot write ");
-        files::say(name);
-        files::say(b": it is no ordinary file\n");
-        return refused();
+        files::refuse(&CANNOT, name, b": it is no ordinary file\n");
+        return leave_anew(false);
     }
     Leave {
         given: true,
         mode: mode & PERMISSIONS,
+        owner: there.owner,
+        group: there.group,
     }
 }
 
@@ -170,24 +193,26 @@ fn put_temporary(name: &[u8], memory: &mut [u8]) -> usize
 
 // ---- writing
 
-// Says why the file could not be written: the name asked for, and the system's reason. It comes before anything else is asked of the system, which would have a reason of its own.
-fn say_unwritten(name: &[u8]) {
-    files::say(b"cannot write ");
-    os::fail(name);
+// Gives the open file its owner and group as far as the system lets: to another owner, that is for root alone.
+fn hand_over(fd: i32, owner: u32, group: u32) {
+    if libc::fchown(fd, owner, group) < 0 {
+        libc::fchown(fd, AS_IT_IS, group);
+    }
 }
 
-// Writes the bytes to the open file, as far as the disk; false where the system refuses.
-fn write_whole(fd: i32, content: &[u8], mode: u32) -> bool {
+// Writes the bytes to the open file, as far as the disk; false where the system refuses. The mode comes after the owner, since a change of owner may change it.
+fn write_whole(fd: i32, content: &[u8], leave: Leave) -> bool {
     if !io::write_all(fd, content) {
         return false;
     }
-    if libc::fchmod(fd, mode) < 0 {
+    hand_over(fd, leave.owner, leave.group);
+    if libc::fchmod(fd, leave.mode) < 0 {
         return false;
     }
     libc::fsync(fd) == 0
 }
 
-// Removes the file under `temporary`, which is not wanted any more.
+// Removes the file under `temporary`, which is not wanted any more. The reason for that was told before, since this may have one of its own.
 fn remove(temporary: &[u8]) {
     if os::unlink(temporary) < 0 {
         files::say(b"cannot remove ");
@@ -197,21 +222,23 @@ fn remove(temporary: &[u8]) {
 
 // Writes the bytes to the new file `temporary`, open as fd, and then gives it the name. Where the system refuses any of that, standard error says why, and no file is left but what stood under the
 // name, unless the new one cannot be removed.
-fn save_open(fd: i32, temporary: &[u8], name: &[u8], content: &[u8], mode: u32) -> bool {
-    let written = write_whole(fd, content, mode);
+fn save_open(fd: i32, temporary: &[u8], name: &[u8], content: &[u8], leave: Leave) -> bool
+    requires { ⌜ length (now name) < 256 ⌝ }
+{
+    let written = write_whole(fd, content, leave);
     if !written {
-        say_unwritten(name);
+        files::fail(&CANNOT, name);
         libc::close(fd);
         remove(temporary);
         return false;
     }
     if libc::close(fd) < 0 {
-        say_unwritten(name);
+        files::fail(&CANNOT, name);
         remove(temporary);
         return false;
     }
     if os::rename(temporary, name) < 0 {
-        say_unwritten(name);
+        files::fail(&CANNOT, name);
         remove(temporary);
         return false;
     }
@@ -219,37 +246,23 @@ fn save_open(fd: i32, temporary: &[u8], name: &[u8], content: &[u8], mode: u32) 
 }
 
 // The same under `temporary`, whose last six letters the system fills in.
-fn save_by(temporary: &mut [u8], name: &[u8], content: &[u8], mode: u32) -> bool {
+fn save_by(temporary: &mut [u8], name: &[u8], content: &[u8], leave: Leave) -> bool
+    requires { ⌜ length (now name) < 256 ⌝ }
+{
     let fd = os::create_temp(temporary);
     if fd < 0 {
-        say_unwritten(name);
+        files::fail(&CANNOT, name);
         return false;
     }
-    save_open(fd, temporary, name, content, mode)
+    save_open(fd, temporary, name, content, leave)
 }
 
-// Whether the name is one that a file may have: of 1 to 255 bytes, none of them 0. Standard error says where not.
-fn is_name(name: &[u8]) -> bool
-    ensures { λ r. ⌜ (r ≡ true → length (now (name .entry)) < 256) ⌝ }
+// The bytes as the file of a name that a file may have. One that ends in a carriage return is refused too: nobody means it.
+fn save_named(name: &[u8], content: &[u8]) -> bool
+    requires { ⌜ length (now name) < 256 ⌝ }
 {
-    if name.len() == 0 {
-        files::say(b"cannot write: the name to write to is empty\n");
-        return false;
-    }
-    if MOST_NAME < name.len() {
-        files::say(b"cannot write: the name to write to has more than 255 bytes\n");
-        return false;
-    }
-    if bytes::scan::find(name, 0, name.len(), 0) < name.len() {
-        files::say(b"cannot write: the name to write to has a zero byte\n");
-        return false;
-    }
-    true
-}
-
-// The bytes as the named file, whole or not at all. Where the name is none or the system refuses, standard error says so, and it is false.
-pub fn save(name: &[u8], content: &[u8]) -> bool {
-    if !is_name(name) {
+    if files::ends_in_return(name) {
+        files::refuse(&CANNOT, name, b": its name ends in a carriage return\n");
         return false;
     }
     let leave = leave_for(name);
@@ -258,5 +271,13 @@ pub fn save(name: &[u8], content: &[u8]) -> bool {
     }
     let mut temporary = [0u8; ROOM];
     let end = put_temporary(name, &mut temporary);
-    save_by(&mut temporary[0..end], name, content, leave.mode)
+    save_by(&mut temporary[0..end], name, content, leave)
+}
+
+// The bytes as the named file, whole or not at all. Where there can be no such file or the system refuses, standard error says so, and it is false.
+pub fn save(name: &[u8], content: &[u8]) -> bool {
+    if !files::is_name(b"cannot write the file", name) {
+        return false;
+    }
+    save_named(name, content)
 }

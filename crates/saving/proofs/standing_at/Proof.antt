@@ -1,4 +1,4 @@
--- `saving::mode_at` meets its contract: a walk of its MIR, by hand. All that it knows of `lstat` and of `mode_by` is that each meets its contract.
+-- `saving::standing_at` meets its contract: a walk of its MIR, by hand. All that it knows of `lstat` and of `standing_by` is that each meets its contract.
 -- The struct is lent to `lstat` for a lifetime that is made for the call, and comes back at the last value that the call leaves, whatever it is. Nothing is had of the parameters at exit.
 -- Assumes nothing.
 use mathlib.Core.Path.{refl}
@@ -26,9 +26,8 @@ use sound.WpLaws.{FmC, fmOf, WpFn-mono}
 use denote.RattleType.{RattleType, owns}
 use denote.Laws.{Is, shows}
 use denote.Memory.{partAt, mem}
-use denote.Plain.{uint-lawful}
 use denote.Signed.{sint-lawful}
-use denote.Builtin.{u8, u32, i32, Array}
+use denote.Builtin.{u8, i32, Array}
 use denote.Ref.{RefT, MutRef, ShrRef, ptr-vals, shr-tells}
 use denote.Lend.{lends-ref, ref-back}
 use borrow.Table.OneValue.{part-in, part-out}
@@ -51,19 +50,22 @@ use Rattle.libc.proofs.lstat as lstat
 use Rattle.libc.proofs.lstat.Symbol as lstat-def
 use Rattle.libc.proofs.lstat.Symbol.{name as #libc·lstat}
 use Rattle.libc.proofs.lstat.Met as lstat-thm
-use Rattle.saving.proofs.mode_by as mode-by
-use Rattle.saving.proofs.mode_by.Symbol as mode-by-def
-use Rattle.saving.proofs.mode_by.Symbol.{name as #saving·mode-by}
-use Rattle.saving.proofs.mode_by.Met as mode-by-thm
-use Rattle.saving.proofs.mode_at.Key.{name as #saving·mode-at}
-use Rattle.saving.proofs.mode_at as mode-at
-use Rattle.saving.proofs.mode_at.Statement as stated
-use Rattle.saving.proofs.mode_at.Code as code
+use Rattle.saving.specs.declared.Standing.{Standing}
+use Rattle.saving.proofs.Standing as S
+use Rattle.saving.proofs.Standing.Laws as S′
+use Rattle.saving.proofs.standing_by as standing-by
+use Rattle.saving.proofs.standing_by.Symbol as standing-by-def
+use Rattle.saving.proofs.standing_by.Symbol.{name as #saving·standing-by}
+use Rattle.saving.proofs.standing_by.Met as standing-by-thm
+use Rattle.saving.proofs.standing_at.Key.{name as #saving·standing-at}
+use Rattle.saving.proofs.standing_at as standing-at
+use Rattle.saving.proofs.standing_at.Statement as stated
+use Rattle.saving.proofs.standing_at.Code as code
 
 abbrev Path : RattleType
 Path = Array u8 tt 4096
 
-abbrev stayed : Stays (mode-at.ended .signature .params) (mode-at.ended .kept)
+abbrev stayed : Stays (standing-at.ended .signature .params) (standing-at.ended .kept)
 stayed = (stay-dropped (shrRefTo (0 ∷ []) tt (plain (λ _. Path))) yes, (stay-dropped (plain (λ _. T.the-row)) yes, tt))
 
 module _ {M : Type 1} (𝓤 : URA M) (H : Heap 𝓤) (A : Atoms 𝓤) (mem′ : Memory → SProp 𝓤) (run : Routine → Fun 𝓤) where
@@ -71,8 +73,8 @@ module _ {M : Type 1} (𝓤 : URA M) (H : Heap 𝓤) (A : Atoms 𝓤) (mem′ : 
   abbrev Lstat : Contract 𝓤
   Lstat = tripleOf 𝓤 H A lstat.signature (lstat.spec 𝓤 H A mem′ run)
 
-  abbrev ModeBy : Contract 𝓤
-  ModeBy = tripleOf 𝓤 H A mode-by.signature (mode-by.spec 𝓤 H A mem′ run)
+  abbrev StandingBy : Contract 𝓤
+  StandingBy = tripleOf 𝓤 H A standing-by.signature (standing-by.spec 𝓤 H A mem′ run)
 
 module _ {M : Type 1} (𝓤 : URA M) (H : Heap 𝓤) (A : Atoms 𝓤) (W : Given 𝓤 H A) (mem′ : Memory → SProp 𝓤) (run : Routine → Fun 𝓤) (κ : Lft) (q : Share) (b o : ℕ) (δ : GName) (bytes : List ℕ) (h : stat) (ended : Ended bytes) where
   abbrev x : RefT (List ℕ)
@@ -91,12 +93,12 @@ module _ {M : Type 1} (𝓤 : URA M) (H : Heap 𝓤) (A : Atoms 𝓤) (W : Given
   path-own = ShrRef (named 0) κ Path .own x (vptr b o ∷ [])
 
   abbrev Post : Val → SProp 𝓤
-  Post = walkOf 𝓤 H A mode-at.ended stayed (mode-at.clauses 𝓤 H A mem′ run) .post (((κ, tt), (q, tt), tt, a, vals), tt)
+  Post = walkOf 𝓤 H A standing-at.ended stayed (standing-at.clauses 𝓤 H A mem′ run) .post (((κ, tt), (q, tt), tt, a, vals), tt)
 
-  exits : (r : ℕ) (v : Val) → ent 𝓤 (sep 𝓤 (A .lft κ q) (sem 𝓤 H A (u32 .own r (v ∷ [])))) (Post v)
+  exits : (r : Standing) (v : Val) → ent 𝓤 (sep 𝓤 (A .lft κ q) (sem 𝓤 H A (S.the-row .own r (v ∷ [])))) (Post v)
   exits r v =
-      qed W (‵ (flft κ q) ∷ ‵ (u32 .own r (v ∷ [])) ∷ []) ∵
-      suffices ! _ (ends-at 𝓤 H A mode-at.ended stayed (mode-at.clauses 𝓤 H A mem′ run) W (((κ, tt), (q, tt), tt, a, vals), tt) v r (tt, (tt, tt)) (tt, (tt, tt))) $
+      qed W (‵ (flft κ q) ∷ ‵ (S.the-row .own r (v ∷ [])) ∷ []) ∵
+      suffices ! _ (ends-at 𝓤 H A standing-at.ended stayed (standing-at.clauses 𝓤 H A mem′ run) W (((κ, tt), (q, tt), tt, a, vals), tt) v r (tt, (tt, tt)) (tt, (tt, tt))) $
       nothing ! $ move ! (1 ∷ 0 ∷ []) $ join ! $ nothing ! $ nothing ! $ fjoin ! $ nothing ! $ fjoin ! $ move ! (0 ∷ 2 ∷ []) $ join ! $ move ! (1 ∷ 0 ∷ []) $ join ! $ frame ! $ done !
 
   -- the loan of the struct at (l, 0), under the name γ, for the lifetime α
@@ -119,16 +121,16 @@ module _ {M : Type 1} (𝓤 : URA M) (H : Heap 𝓤) (A : Atoms 𝓤) (W : Given
       split ! $ split ! $ move ! (2 ∷ 1 ∷ []) $ join ! $ move ! (1 ∷ 0 ∷ []) $ join ! $ frame ! $
       split ! $ nothing ! $ move ! (2 ∷ 0 ∷ []) $ fjoin ! $ move ! (1 ∷ 0 ∷ []) $ fjoin ! $ done !
 
-  abbrev to-mode-by : ℤ → Val → stat → Val → ModeBy 𝓤 H A mem′ run .Ghost
-  to-mode-by r v h′ w = ((tt, tt, tt, (r, (h′, tt)), (v ∷ [], (w ∷ [], tt))), tt)
+  abbrev to-standing-by : ℤ → Val → stat → Val → StandingBy 𝓤 H A mem′ run .Ghost
+  to-standing-by r v h′ w = ((tt, tt, tt, (r, (h′, tt)), (v ∷ [], (w ∷ [], tt))), tt)
 
-  goes-mode-by : (r : ℤ) (v : Val) (h′ : stat) (w : Val) → ent 𝓤 (sep 𝓤 (sem 𝓤 H A (i32 .own r (v ∷ []))) (sem 𝓤 H A (T.the-row .own h′ (w ∷ [])))) (ModeBy 𝓤 H A mem′ run .pre (to-mode-by r v h′ w))
-  goes-mode-by r v h′ w =
+  goes-standing-by : (r : ℤ) (v : Val) (h′ : stat) (w : Val) → ent 𝓤 (sep 𝓤 (sem 𝓤 H A (i32 .own r (v ∷ []))) (sem 𝓤 H A (T.the-row .own h′ (w ∷ [])))) (StandingBy 𝓤 H A mem′ run .pre (to-standing-by r v h′ w))
+  goes-standing-by r v h′ w =
       qed W (‵ (i32 .own r (v ∷ [])) ∷ ‵ (T.the-row .own h′ (w ∷ [])) ∷ []) ∵
       nothing ! $ move ! (2 ∷ 0 ∷ []) $ fjoin ! $ move ! (1 ∷ 0 ∷ []) $ fjoin ! $ nothing ! $ join ! $ frame ! $ done !
 
-  module _ (C : Calls 𝓤 H) (Λ : Loops 𝓤 H) (fm : FmC 𝓤 H (W .laws) C) (known-lstat : Triple 𝓤 (C #libc·lstat) (Lstat 𝓤 H A mem′ run)) (known-mode-by : Triple 𝓤 (C #saving·mode-by) (ModeBy 𝓤 H A mem′ run)) where
-    walk : Holds (hasTy T′.mir mach) × WT mach → ent 𝓤 (onEntry 𝓤 H A mode-at.signature (κ, tt) (q, tt) a vals) (WpFn 𝓤 H C Λ code.function (vptr b o ∷ mach ∷ []) Post)
+  module _ (C : Calls 𝓤 H) (Λ : Loops 𝓤 H) (fm : FmC 𝓤 H (W .laws) C) (known-lstat : Triple 𝓤 (C #libc·lstat) (Lstat 𝓤 H A mem′ run)) (known-standing-by : Triple 𝓤 (C #saving·standing-by) (StandingBy 𝓤 H A mem′ run)) where
+    walk : Holds (hasTy T′.mir mach) × WT mach → ent 𝓤 (onEntry 𝓤 H A standing-at.signature (κ, tt) (q, tt) a vals) (WpFn 𝓤 H C Λ code.function (vptr b o ∷ mach ∷ []) Post)
     walk wt =
         qed W ((‵ (flft κ q) ⊛ ‵ ftrue) ∷ ‵ (owns (ShrRef (named 0) κ Path ∷ T.the-row ∷ []) a vals) ∷ []) ∵ enter ! C Λ code.function (vptr b o ∷ mach ∷ []) _ $
         alloc1 ! (λ l₀. alloc1 ! (λ l₁. alloc1 ! (λ l₂. alloc1 ! (λ l₃. alloc1 ! (λ l₄. alloc1 ! (λ l₅. alloc1 ! (λ l₆. alloc0 ! $ params1 ! $
@@ -151,35 +153,35 @@ module _ {M : Type 1} (𝓤 : URA M) (H : Heap 𝓤) (A : Atoms 𝓤) (W : Given
         move ! (4 ∷ []) $ peeks ! i32 (Is i32) (shows 𝓤 H A i32) r (v ∷ []) (λ is. land ! (from ! (stop !)) (init ! 13 refl (sint-lawful 𝓤 H A W w32 .typed r _ is .0)) $
         move ! (2 ∷ []) $ peeks ! T.the-row (Is T.the-row) (shows 𝓤 H A T.the-row) (ws .1 .0) (w ∷ []) (λ is′.
         assigns ! (of-opd ! (load ! (from ! (stop !)) (look ! 2 refl))) (from ! (stop !)) (init ! 9 refl (LL.lawful T.the-type T′.the-laws 𝓤 H A W .typed (ws .1 .0) _ is′ .0)) $
-        -- `mode_by`
-        move ! (1 ∷ 0 ∷ []) $ use2 W (raw (ModeBy 𝓤 H A mem′ run .pre (to-mode-by r v (ws .1 .0) w))) (goes-mode-by r v (ws .1 .0) w) $
-        calls-at ! fm (ModeBy 𝓤 H A mem′ run) known-mode-by (to-mode-by r v (ws .1 .0) w) (and-then ! (load ! (from ! (stop !)) (look ! 12 refl)) (and-then ! (load ! (from ! (stop !)) (look ! 8 refl)) (no-more !))) (λ v′.
-        use1 W (later (some (λ (r′ : ℕ). (‵ ftrue ⊛ ‵ (u32 .own r′ (v′ ∷ []))) ⊛ raw (ensured 𝓤 H A mode-by.ended (mode-by.clauses 𝓤 H A mem′ run) tt (r, (ws .1 .0, tt)) tt r′)))) (id⊢ 𝓤 _) $ await ! tt $ pick ! (λ r′. split ! $ split ! $
-        move ! (1 ∷ []) $ peeks ! u32 (Is u32) (shows 𝓤 H A u32) r′ (v′ ∷ []) (λ is″. land ! (from ! (stop !)) (init ! 21 refl (uint-lawful 𝓤 H A W w32 .typed r′ _ is″ .0)) $
+        -- `standing_by`
+        move ! (1 ∷ 0 ∷ []) $ use2 W (raw (StandingBy 𝓤 H A mem′ run .pre (to-standing-by r v (ws .1 .0) w))) (goes-standing-by r v (ws .1 .0) w) $
+        calls-at ! fm (StandingBy 𝓤 H A mem′ run) known-standing-by (to-standing-by r v (ws .1 .0) w) (and-then ! (load ! (from ! (stop !)) (look ! 12 refl)) (and-then ! (load ! (from ! (stop !)) (look ! 8 refl)) (no-more !))) (λ v′.
+        use1 W (later (some (λ (r′ : Standing). (‵ ftrue ⊛ ‵ (S.the-row .own r′ (v′ ∷ []))) ⊛ raw (ensured 𝓤 H A standing-by.ended (standing-by.clauses 𝓤 H A mem′ run) tt (r, (ws .1 .0, tt)) tt r′)))) (id⊢ 𝓤 _) $ await ! tt $ pick ! (λ r′. split ! $ split ! $
+        move ! (1 ∷ []) $ peeks ! S.the-row (Is S.the-row) (shows 𝓤 H A S.the-row) r′ (v′ ∷ []) (λ is″. land ! (from ! (stop !)) (init ! 21 refl (LL.lawful S.the-type S′.the-laws 𝓤 H A W .typed r′ _ is″ .0)) $
         returns ! (look ! 21 refl) $ forget ! 3 refl $ forget ! 10 refl $ forget ! 12 refl $ forget ! 14 refl $ forget ! 17 refl $ forget ! 19 refl $ forget ! 21 refl $
         move ! (21 ∷ 22 ∷ []) $ free1 ! $ move ! (19 ∷ 20 ∷ []) $ free1 ! $ move ! (17 ∷ 18 ∷ []) $ free1 ! $ move ! (3 ∷ 16 ∷ []) $ free1 ! $ move ! (13 ∷ 14 ∷ []) $ free1 ! $ move ! (11 ∷ 12 ∷ []) $ free1 ! $ move ! (9 ∷ 10 ∷ []) $ free1 ! $ free0 ! $
         keep ! (4 ∷ 0 ∷ []) $ by ! (exits r′ v′)))))))))))))))))))
 
 module _ {M : Type 1} (𝓤 : URA M) (H : Heap 𝓤) (A : Atoms 𝓤) (W : Given 𝓤 H A) (mem′ : Memory → SProp 𝓤) (run : Routine → Fun 𝓤) where
-  mode-at-walks : (C : Calls 𝓤 H) (Λ : Loops 𝓤 H) → FmC 𝓤 H (W .laws) C → Triple 𝓤 (C #libc·lstat) (Lstat 𝓤 H A mem′ run) → Triple 𝓤 (C #saving·mode-by) (ModeBy 𝓤 H A mem′ run)
-      → Walks 𝓤 H A mode-at.ended stayed (WpFn 𝓤 H C Λ code.function) (mode-at.clauses 𝓤 H A mem′ run)
-  mode-at-walks C Λ fm known-lstat known-mode-by = walked 𝓤 H A mode-at.ended stayed (mode-at.clauses 𝓤 H A mem′ run) (WpFn 𝓤 H C Λ code.function)
+  standing-at-walks : (C : Calls 𝓤 H) (Λ : Loops 𝓤 H) → FmC 𝓤 H (W .laws) C → Triple 𝓤 (C #libc·lstat) (Lstat 𝓤 H A mem′ run) → Triple 𝓤 (C #saving·standing-by) (StandingBy 𝓤 H A mem′ run)
+      → Walks 𝓤 H A standing-at.ended stayed (WpFn 𝓤 H C Λ code.function) (standing-at.clauses 𝓤 H A mem′ run)
+  standing-at-walks C Λ fm known-lstat known-standing-by = walked 𝓤 H A standing-at.ended stayed (standing-at.clauses 𝓤 H A mem′ run) (WpFn 𝓤 H C Λ code.function)
       (λ κs. (ptr-vals, (LL.vals T.the-type T′.the-laws, tt))) (λ κs. (shr-tells (named 0) (κs .0) Path, (LL.tells T.the-type T′.the-laws, tt)))
       (λ κs qs bounds a g are. needs 𝓤 (Ended (a .0 .now)) _ (λ ended.
-      walk 𝓤 H A W mem′ run (κs .0) (qs .0) (a .0 .ptr .0) (a .0 .ptr .1) (a .0 .name) (a .0 .now) (a .1 .0) ended C Λ fm known-lstat known-mode-by (LL.lawful T.the-type T′.the-laws 𝓤 H A W .typed (a .1 .0) _ (are .1 .0) .0)))
+      walk 𝓤 H A W mem′ run (κs .0) (qs .0) (a .0 .ptr .0) (a .0 .ptr .1) (a .0 .name) (a .0 .now) (a .1 .0) ended C Λ fm known-lstat known-standing-by (LL.lawful T.the-type T′.the-laws 𝓤 H A W .typed (a .1 .0) _ (are .1 .0) .0)))
 
-mode-at-meets : {M : Type 1} (𝓤 : URA M) (H : Heap 𝓤) (A : Atoms 𝓤) → Given 𝓤 H A → (mem′ : Memory → SProp 𝓤) (run : Routine → Fun 𝓤) (𝓣 : Tables 𝓤 H)
-    → Triple 𝓤 (𝓣 .C #libc·lstat) (Lstat 𝓤 H A mem′ run) → Triple 𝓤 (𝓣 .C #saving·mode-by) (ModeBy 𝓤 H A mem′ run)
-    → Meets 𝓤 H A mode-at.signature (WpFn 𝓤 H (𝓣 .C) (𝓣 .Λ) code.function) (mode-at.spec 𝓤 H A mem′ run)
-mode-at-meets 𝓤 H A W mem′ run 𝓣 known-lstat known-mode-by =
-    walk-meets 𝓤 H A mode-at.ended stayed W (goes-dropped 𝓤 H A W 1 (shrRefTo (0 ∷ []) tt (plain (λ _. Path))) yes (λ κs x f. refl), (goes-dropped 𝓤 H A W 1 (plain (λ _. T.the-row)) yes (λ κs x f. refl), tt)) (mode-at.clauses 𝓤 H A mem′ run)
-    (WpFn 𝓤 H (𝓣 .C) (𝓣 .Λ) code.function) (WpFn-mono 𝓤 H (W .laws) 𝓣 code.function) (mode-at-walks 𝓤 H A W mem′ run (𝓣 .C) (𝓣 .Λ) (fmOf 𝓤 H (W .laws) 𝓣) known-lstat known-mode-by)
+standing-at-meets : {M : Type 1} (𝓤 : URA M) (H : Heap 𝓤) (A : Atoms 𝓤) → Given 𝓤 H A → (mem′ : Memory → SProp 𝓤) (run : Routine → Fun 𝓤) (𝓣 : Tables 𝓤 H)
+    → Triple 𝓤 (𝓣 .C #libc·lstat) (Lstat 𝓤 H A mem′ run) → Triple 𝓤 (𝓣 .C #saving·standing-by) (StandingBy 𝓤 H A mem′ run)
+    → Meets 𝓤 H A standing-at.signature (WpFn 𝓤 H (𝓣 .C) (𝓣 .Λ) code.function) (standing-at.spec 𝓤 H A mem′ run)
+standing-at-meets 𝓤 H A W mem′ run 𝓣 known-lstat known-standing-by =
+    walk-meets 𝓤 H A standing-at.ended stayed W (goes-dropped 𝓤 H A W 1 (shrRefTo (0 ∷ []) tt (plain (λ _. Path))) yes (λ κs x f. refl), (goes-dropped 𝓤 H A W 1 (plain (λ _. T.the-row)) yes (λ κs x f. refl), tt)) (standing-at.clauses 𝓤 H A mem′ run)
+    (WpFn 𝓤 H (𝓣 .C) (𝓣 .Λ) code.function) (WpFn-mono 𝓤 H (W .laws) 𝓣 code.function) (standing-at-walks 𝓤 H A W mem′ run (𝓣 .C) (𝓣 .Λ) (fmOf 𝓤 H (W .laws) 𝓣) known-lstat known-standing-by)
 
-pub mode-at-spec : {M : Type 1} → stated.statement M
+pub standing-at-spec : {M : Type 1} → stated.statement M
 unfolding code.routine tablesOf
-mode-at-spec 𝓤 H 𝓜 𝓖 𝓡 =
-    entered 𝓤 H (tripleOf 𝓤 H (𝓖 .A) mode-at.signature (mode-at.spec 𝓤 H (𝓖 .A) (𝓜 .mem) (𝓡 .run)))
-    (tables 𝓤 H 𝓜 𝓡 code.env .C) (tables 𝓤 H 𝓜 𝓡 code.env .Λ) #saving·mode-at code.function (code.unfolded 𝓤 H 𝓜 𝓡)
-    (mode-at-meets 𝓤 H (𝓖 .A) (givenOf 𝓤 H 𝓜 𝓖) (𝓜 .mem) (𝓡 .run) (tablesOf 𝓤 H 𝓜 (tables 𝓤 H 𝓜 𝓡 code.env))
+standing-at-spec 𝓤 H 𝓜 𝓖 𝓡 =
+    entered 𝓤 H (tripleOf 𝓤 H (𝓖 .A) standing-at.signature (standing-at.spec 𝓤 H (𝓖 .A) (𝓜 .mem) (𝓡 .run)))
+    (tables 𝓤 H 𝓜 𝓡 code.env .C) (tables 𝓤 H 𝓜 𝓡 code.env .Λ) #saving·standing-at code.function (code.unfolded 𝓤 H 𝓜 𝓡)
+    (standing-at-meets 𝓤 H (𝓖 .A) (givenOf 𝓤 H 𝓜 𝓖) (𝓜 .mem) (𝓡 .run) (tablesOf 𝓤 H 𝓜 (tables 𝓤 H 𝓜 𝓡 code.env))
     (cited 𝓤 H (Lstat 𝓤 H (𝓖 .A) (𝓜 .mem) (𝓡 .run)) 𝓜 𝓡 code.env #libc·lstat lstat-def.routine code.calls-libc·lstat (lstat-thm.met 𝓤 H 𝓜 𝓖 𝓡))
-    (cited 𝓤 H (ModeBy 𝓤 H (𝓖 .A) (𝓜 .mem) (𝓡 .run)) 𝓜 𝓡 code.env #saving·mode-by mode-by-def.routine code.calls-saving·mode-by (mode-by-thm.met 𝓤 H 𝓜 𝓖 𝓡)))
+    (cited 𝓤 H (StandingBy 𝓤 H (𝓖 .A) (𝓜 .mem) (𝓡 .run)) 𝓜 𝓡 code.env #saving·standing-by standing-by-def.routine code.calls-saving·standing-by (standing-by-thm.met 𝓤 H 𝓜 𝓖 𝓡)))

@@ -1,0 +1,2 @@
+-- How a name is shown.
+pub mod Shown
