@@ -1,2 +1,2 @@
--- How a name is shown.
+-- How the bytes of a name are shown.
 pub mod Shown

@@ -44,7 +44,7 @@ pub fn say(text: &[u8]) {
 
 // ---- names
 
-// The byte as it is shown: a question mark for one that would move a terminal's cursor or begin a command to it.
+// The byte as it is shown: a question mark for an ASCII control byte, which may move a terminal's cursor or begin a command to it.
 fn shown(b: u8) -> u8
     ensures { λ r. ⌜ r ≡ shownByte b ⌝ }
 {
