@@ -1,28 +1,22 @@
--- The minutes of a sheet that passes: each row's minute names it; and a latitude a minute or more from a row's lies outside the two intervals beside that row. Assumes nothing.
+-- A latitude a minute or more from a row's lies outside the two intervals beside that row. Assumes nothing.
 use mathlib.Core.Path.{_≡_, sym, ap, _∙_}
 use mathlib.Core.Bool.{true}
 use mathlib.Core.List.{List}
 use mathlib.Core.Logic.{_⊎_, inl, inr}
-use Prim.Native.Nat.{ℕ, zero, suc, _+_, _-_, _*_, _<_, _≤_, zero-le}
+use Prim.Native.Nat.{ℕ, suc, _+_, _-_, _*_, _≤_}
 use native.Mathlib.Decide.{decLe}
 use native.Mathlib.Omega.{arith}
-use borrow.Author.Tests.{le-leb}
 use lib.IntN.{ℤ, pos, negℤ, natAbs, _+ℤ_, _-ℤ_, _*ℤ_, +ℤ-assoc, +ℤ-invl, +ℤ-idl, +ℤ-negℤ-cancel}
-use Rattle.figures.proofs.Sizes.{Size, pos-minus, subℕ-le, subℕ-lt}
+use Rattle.figures.proofs.Sizes.{pos-minus, subℕ-le, subℕ-lt}
 use Rattle.figures.proofs.Ring.{difference-times}
 use Rattle.entries.specs.Layout.{latitude, stepOf}
 use Rattle.entries.specs.Entries.{rowsOf, bodyOf}
-use Rattle.rules.specs.Limits.{inRange}
-use Rattle.rules.proofs.Ranges.{same-self}
 use Rattle.rows.specs.Rows.{rowAt}
-use Rattle.rows.proofs.PassingFigures.{minute-in-range, minute-up}
 use Rattle.bodies.specs.Check.{checkOf}
-use Rattle.bodies.proofs.Sound.{passes-sound, latitude-rows}
 use Rattle.tables.specs.Figures.{firstLatitude}
-use Rattle.tables.proofs.Ranges.{latitude-some}
 use Rattle.extent.specs.Extent.{fromFirst, latitudeKnown}
 use Rattle.extent.proofs.Reach.{latitude-reach}
-use Rattle.judge.specs.Judge.{fromFirstMinute, namedRow, hasRow}
+use Rattle.judge.specs.Judge.{fromFirstMinute}
 use Rattle.judge.proofs.Place.{row-size}
 use Rattle.touched.specs.Touched.{hasMinute, rowNamed}
 use Rattle.corrected.proofs.Beside.{Outside}
@@ -55,33 +49,6 @@ module _ (s : List ℕ) (ok : checkOf s .number ≡ 0) where
 
   abbrev n : ℕ
   n = rowsOf s latitude
-
-  -- ---- row i's minute is i more than the first
-  minute-size : (i : ℕ) → i < n → Size 0 (rowAt b i .minute) 5_400
-  minute-size i h = minute-in-range b n (latitude-rows s (passes-sound s ok)) i h
-
-  minutes-rise : (i : ℕ) → i < n → natAbs (rowAt b i .minute) ≡ natAbs (rowAt b 0 .minute) + i
-  minutes-rise zero h = omega arith
-  minutes-rise (suc i) h =
-      let next : suc i ≡ i + 1 = omega arith in
-      rw next (omega (arith, minute-up b n (latitude-rows s (passes-sound s ok)) i (omega arith), minutes-rise i (omega arith)))
-
-  from-first-is : (i : ℕ) → i < n → fromFirstMinute b (rowAt b i .minute) ≡ pos i
-  unfolding fromFirstMinute
-  from-first-is i h =
-      let this = minute-size i h in
-      let first = minute-size 0 (latitude-some s ok) in
-      ap (λ (x : ℤ). x -ℤ rowAt b 0 .minute) (this .is)
-      ∙ ap (λ (x : ℤ). pos (natAbs (rowAt b i .minute)) -ℤ x) (first .is)
-      ∙ pos-minus (natAbs (rowAt b i .minute)) (natAbs (rowAt b 0 .minute))
-      ∙ subℕ-le {a = natAbs (rowAt b i .minute)} {b = natAbs (rowAt b 0 .minute)} (omega (arith, minutes-rise i h))
-      ∙ ap pos {y = i} (omega (arith, minutes-rise i h))
-
-  pub each-named : (r : ℕ) → r < n → (hasMinute s (rowAt b r .minute) ≡ true) × (rowNamed s (rowAt b r .minute) ≡ r)
-  unfolding hasRow inRange
-  each-named r h =
-      let at : namedRow b (rowAt b r .minute) ≡ r = ap natAbs (from-first-is r h) in
-      (rw (from-first-is r h, le-leb 0 r zero-le, le-leb r (n - 1) (omega arith)) (same-self (rowAt b r .minute)), at)
 
   -- ---- a latitude far from the minute's row
   module _ (minute : ℤ) (has : hasMinute s minute ≡ true) where

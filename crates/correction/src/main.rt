@@ -10,6 +10,9 @@ ghost use Prim.Native.Nat.{_+_, _<_, _≤_, min};
 ghost use lib.Dec.{ltb};
 ghost use lib.ListN.{length, take, drop};
 
+// Room for the input: three lines of 256 bytes each, at most, and what comes with them.
+const INPUT: usize = 4096;
+
 // The number of a line of no known form.
 const UNKNOWN: u32 = 18;
 
@@ -83,8 +86,8 @@ fn put_name(name: &[u8], memory: &mut [u8]) -> usize
 }
 
 fn main() {
-    let mut sheet = [0u8; 65536];
-    let mut input = [0u8; 65536];
+    let mut sheet = files::sheet_room();
+    let mut input = [0u8; INPUT];
     let mut name = [0u8; 256];
     let first = files::read_line(&mut input, 0, 0);
     if first.failed {

@@ -17,7 +17,7 @@ use Rattle.bodies.specs.Check.{checkOf}
 use Rattle.tables.proofs.Ranges.{latitude-some}
 use Rattle.judge.specs.Judge.{fromFirstMinute, namedRow, hasRow}
 use Rattle.judge.proofs.Place.{row-there}
-use Rattle.corrected.proofs.Minutes.{each-named}
+use Rattle.judge.proofs.Minutes.{each-named}
 use Rattle.differing.specs.Differing.{minuteAt, rowDiffers, minuteWhere, differing, differingRows, anyOf, differsAt, isDiffering}
 
 -- ---- of tests

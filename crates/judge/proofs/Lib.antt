@@ -3,3 +3,4 @@ pub mod Place
 pub mod Bounds
 pub mod Kept
 pub mod Lent
+pub mod Minutes

@@ -57,7 +57,8 @@ use Rattle.corrected.proofs.OtherBytes.{other-bytes}
 use Rattle.corrected.proofs.WholeCheck.{passes-with, must-range, must-before, must-after}
 use Rattle.corrected.proofs.Beside.{Beside, latitude-rows, latitude-same, longitude-same, x-prime-same, easting-same, northing-same, y0-row-same}
 use Rattle.corrected.proofs.SameAnswers.{Apart, forward-same, inverse-same, grid-same, reduced-same}
-use Rattle.corrected.proofs.Minutes.{each-named, far-outside}
+use Rattle.judge.proofs.Minutes.{each-named}
+use Rattle.corrected.proofs.Minutes.{far-outside}
 
 -- ---- figures of 32 bits are words
 word-fits : (z : ℤ) → Word z → SFits w32 z

@@ -25,7 +25,7 @@ use Rattle.judge.proofs.Kept.{Kept, zero-keeps, kept-zero}
 use Rattle.touched.specs.Touched.{hasMinute, rowNamed}
 use Rattle.corrected.proofs.WithRow.{length-stays}
 use Rattle.corrected.proofs.WholeCheck.{must-range, must-before, must-after}
-use Rattle.corrected.proofs.Minutes.{each-named}
+use Rattle.judge.proofs.Minutes.{each-named}
 use Rattle.corrected.proofs.OnlyRow.{row-keeps, start-kept, rows-kept, minute-kept, figures-range, only-row}
 use Rattle.corrected.proofs.StillBytes.{still-bytes}
 use Rattle.promises.specs.Corrections.{Passes, putIn}

@@ -180,8 +180,8 @@ fn output() -> [u8; OUTPUT]
 }
 
 fn main() {
-    let mut old = [0u8; 65536];
-    let mut new = [0u8; 65536];
+    let mut old = files::sheet_room();
+    let mut new = files::sheet_room();
     let mut input = [0u8; INPUT];
     let mut out = output();
     let first = files::read_line(&mut input, 0, 0);

@@ -3,7 +3,8 @@ use mathlib.Core.Path.{_≡_}
 use mir.Syntax.{w32}
 use mir.Val.{toZ, ofZ}
 use Rattle.tables.proofs.Northings.{lent-start, lent-words, lent-bytes, lent-end, lent-within, lent-some}
-use Rattle.touched.proofs.ByMinute.{lent-holds}
+use Rattle.tables.proofs.Parts.{contents-none}
+use Rattle.judge.proofs.Lent.{lent-rows}
 use Rattle.differing.proofs.OneRow.{between}
 use borrow.Author.Needs.{needs}
 use Rattle.differing.proofs.differs_between.Statement.{statement}
@@ -34,7 +35,7 @@ part-differs-beside-end : tie.Need-part-differs-beside-end
 part-differs-beside-end c = search lent-within
 
 differs-beside-requires : tie.Need-differs-beside-requires
-differs-beside-requires c κs = search (lent-some, lent-holds, needs)
+differs-beside-requires c κs = search (lent-some, lent-rows, contents-none, needs)
 
 returns : tie.Need-returns
 returns c =
