@@ -18,6 +18,9 @@ module _ (f g : Fault) (y : Verdict) (e : f ≡ g) where
   pub passed-in : (z : Verdict) → f .number ≡ 0 → z ≡ y → z ≡ orElse numberOf (inEntries g) y
   passed-in z n q = passed-on numberOf (inEntries g) y (inEntries f) (ap inEntries e) z n q
 
+pub number-none : {f g : Fault} → f ≡ g → f .number ≡ 0 → g .number ≡ 0
+number-none e n = rw e at n
+
 -- its place is an entry's
 pub entry-place : (s : List ℕ) (f : Fault) → f ≡ firstFault (entryFault s) entryCount 0 → f .place ≤ entryCount
 entry-place s f e = rw e (place-small (entryFault s) entryCount 0)

@@ -30,7 +30,7 @@ same-as-requires-2 c κs = search needs
 
 returns : tie.Need-returns
 unfolding sameValues
-returns c = cc (first-tested (c .before .before .before), second-tested c)
+returns c = rw (first-tested (c .before .before .before), second-tested c)
 
 pub same-values-spec : {M : Type 1} → statement M
 same-values-spec = tie.close (tie.spec same-as-requires same-as-requires-2 returns)

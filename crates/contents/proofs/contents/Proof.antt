@@ -3,7 +3,7 @@ use native.Mathlib.Omega.{arith}
 use Rattle.words.proofs.Refusals.{stop, go}
 use Rattle.contents.specs.Contents.{contentsOf}
 use Rattle.contents.proofs.Limits.{long}
-use Rattle.contents.proofs.OfFault.{refused-in, passed-in, entry-place}
+use Rattle.contents.proofs.OfFault.{refused-in, passed-in, number-none, entry-place}
 use borrow.Author.Needs.{needs}
 use Rattle.contents.proofs.contents.Statement.{statement}
 use Rattle.contents.proofs.contents.Tie as tie
@@ -41,7 +41,7 @@ add-t6 : tie.Need-add-t6
 add-t6 c = let small = entry-place _ (c .before .before .entries .result) (c .before .before .entries .ensures) in omega (arith, small)
 
 ends-sheet-requires : tie.Need-ends-sheet-requires
-ends-sheet-requires c κs = (search long, cc)
+ends-sheet-requires c κs = (search long, number-none (c .before .entries .ensures) (c .if3 .left))
 
 add-t7 : tie.Need-add-t7
 add-t7 c = search needs

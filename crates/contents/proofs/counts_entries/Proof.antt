@@ -1,10 +1,11 @@
 -- `contents::counts_entries` meets its contract. Assumes nothing.
+use mathlib.Core.Path.{_∙_}
 use borrow.Author.Needs.{needs}
 use Rattle.contents.proofs.counts_entries.Statement.{statement}
 use Rattle.contents.proofs.counts_entries.Tie as tie
 
 returns : tie.Need-returns
-returns c = cc
+returns c = c .same .ensures ∙ rw (c .before .size-at .ensures .0)
 
 size-at-requires : tie.Need-size-at-requires
 size-at-requires c κs = search needs

@@ -6,7 +6,7 @@ use Rattle.contents.proofs.is_sized.Tie as tie
 
 returns : tie.Need-returns
 unfolding sized
-returns c = cc
+returns c = rw (c .is-within .ensures)
 
 is-within-requires : tie.Need-is-within-requires
 is-within-requires c κs = search needs

@@ -1,10 +1,11 @@
 -- `contents::rows_allowed` meets its contract. Assumes nothing.
+use mathlib.Core.Path.{_∙_}
 use borrow.Author.Needs.{needs}
 use Rattle.contents.proofs.rows_allowed.Statement.{statement}
 use Rattle.contents.proofs.rows_allowed.Tie as tie
 
 returns : tie.Need-returns
-returns c = cc
+returns c = c .is-within .ensures ∙ rw (c .before .before .before .least-rows .ensures, c .before .before .rows-at .ensures .0, c .before .most-rows .ensures, c .before .before .before .before .kind-at .ensures .0)
 
 kind-at-requires : tie.Need-kind-at-requires
 kind-at-requires c κs = search needs

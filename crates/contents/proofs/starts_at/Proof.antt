@@ -1,10 +1,11 @@
 -- `contents::starts_at` meets its contract. Assumes nothing.
+use mathlib.Core.Path.{_∙_}
 use borrow.Author.Needs.{needs}
 use Rattle.contents.proofs.starts_at.Statement.{statement}
 use Rattle.contents.proofs.starts_at.Tie as tie
 
 returns : tie.Need-returns
-returns c = cc
+returns c = c .same .ensures ∙ rw (c .before .start-at .ensures .0, c .before .before .before .pre .2)
 
 start-at-requires : tie.Need-start-at-requires
 start-at-requires c κs = search needs

@@ -50,7 +50,7 @@ same-as-requires-4 c κs = search needs
 
 returns : tie.Need-returns
 unfolding sameFigures
-returns c = cc (y0-tested (c .before .before .before .before .before .before .before .before .before), h-tested (c .before .before .before .before .before .before), v-tested (c .before .before .before), a-tested c)
+returns c = rw (y0-tested (c .before .before .before .before .before .before .before .before .before), h-tested (c .before .before .before .before .before .before), v-tested (c .before .before .before), a-tested c)
 
 pub same-figures-spec : {M : Type 1} → statement M
 same-figures-spec =

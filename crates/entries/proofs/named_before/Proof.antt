@@ -1,10 +1,11 @@
 -- `entries::named_before` meets its contract. Assumes nothing.
+use mathlib.Core.Path.{_∙_}
 use borrow.Author.Needs.{needs}
 use Rattle.entries.proofs.named_before.Statement.{statement}
 use Rattle.entries.proofs.named_before.Tie as tie
 
 returns : tie.Need-returns
-returns c = cc
+returns c = c .is-named .ensures ∙ rw (c .before .kind-at .ensures .0)
 
 kind-at-requires : tie.Need-kind-at-requires
 kind-at-requires c κs = search needs

@@ -4,7 +4,7 @@ use Rattle.entries.proofs.place_of.Statement.{statement}
 use Rattle.entries.proofs.place_of.Tie as tie
 
 returns : tie.Need-returns
-returns c = cc
+returns c = rw (c .before .start-at .ensures .0, c .rows-at .ensures .0, c .before .before .entry-of .ensures .0)
 
 entry-of-requires : tie.Need-entry-of-requires
 entry-of-requires c κs = search needs

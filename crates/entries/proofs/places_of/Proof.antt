@@ -6,7 +6,15 @@ use Rattle.entries.proofs.places_of.Tie as tie
 
 returns : tie.Need-returns
 unfolding placesOf
-returns c = cc
+returns c =
+    rw (
+      c .before .before .before .before .before .place-of .ensures,
+      c .before .before .before .before .place-of2 .ensures,
+      c .before .before .before .place-of3 .ensures,
+      c .before .before .place-of4 .ensures,
+      c .before .place-of5 .ensures,
+      c .place-of6 .ensures,
+    )
 
 place-of-requires : tie.Need-place-of-requires
 place-of-requires c κs = search needs

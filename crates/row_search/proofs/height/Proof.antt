@@ -32,7 +32,7 @@ module _ (c : tie.After-raised-word) where
   rest = renamed (difference (sum (z (c .before)) (held-literal w64 2_147_483_648 tt) tt) figure tt) (raised-height (c .raised-word .result) (c .before .before .args .z))
 
 returns : tie.Need-returns
-returns c = height-is (lowered (c .raised-word .result)) (c .before .before .args .z) (not-above c) ∙ cc (unsigned (rest c), c .raised-word .ensures .0)
+returns c = height-is (lowered (c .raised-word .result)) (c .before .before .args .z) (not-above c) ∙ rw (unsigned (rest c), c .raised-word .ensures .0)
 
 cast-result : tie.Need-cast-result
 cast-result c = search needs

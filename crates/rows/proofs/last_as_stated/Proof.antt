@@ -1,10 +1,11 @@
 -- `rows::last_as_stated` meets its contract. Assumes nothing.
+use mathlib.Core.Path.{_∙_}
 use borrow.Author.Needs.{needs}
 use Rattle.rows.proofs.last_as_stated.Statement.{statement}
 use Rattle.rows.proofs.last_as_stated.Tie as tie
 
 returns : tie.Need-returns
-returns c = cc
+returns c = c .same-differences .ensures ∙ rw (c .before .no-differences .ensures)
 
 no-differences-requires : tie.Need-no-differences-requires
 no-differences-requires c κs = search needs

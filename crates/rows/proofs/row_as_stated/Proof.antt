@@ -1,10 +1,11 @@
 -- `rows::row_as_stated` meets its contract. Assumes nothing.
+use mathlib.Core.Path.{_∙_}
 use borrow.Author.Needs.{needs}
 use Rattle.rows.proofs.row_as_stated.Statement.{statement}
 use Rattle.rows.proofs.row_as_stated.Tie as tie
 
 returns : tie.Need-returns
-returns c = cc
+returns c = c .same-differences .ensures ∙ rw (c .before .differences-of .ensures)
 
 differences-of-requires : tie.Need-differences-of-requires
 differences-of-requires c κs = search needs

@@ -15,7 +15,7 @@ returns c =
     let row = c .before .before .before .args .row in
     let read : toZ w32 (ofZ w32 (row .minute)) ≡ row .minute = search needs in
     let minute : c .before .in-range .result ≡ inRange (pos 0) (row .minute) (pos 5_400) = c .before .in-range .ensures ∙ rw read in
-    cc (minute, c .figures-in-range .ensures)
+    rw (minute, c .figures-in-range .ensures)
 
 in-range-requires : tie.Need-in-range-requires
 in-range-requires c κs = search needs

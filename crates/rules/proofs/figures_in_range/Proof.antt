@@ -31,7 +31,7 @@ a-tested c =
 
 returns : tie.Need-returns
 unfolding figuresInRange
-returns c = cc (y0-tested (c .before .before .before .before .before .before), h-tested (c .before .before .before .before), v-tested (c .before .before), a-tested c)
+returns c = rw (y0-tested (c .before .before .before .before .before .before), h-tested (c .before .before .before .before), v-tested (c .before .before), a-tested c)
 
 in-range-requires : tie.Need-in-range-requires
 in-range-requires c κs = search needs

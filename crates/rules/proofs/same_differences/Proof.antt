@@ -28,7 +28,7 @@ v-tested c =
 
 returns : tie.Need-returns
 unfolding sameDifferences
-returns c = cc (y-tested (c .before .before .before .before .before .before), h-tested (c .before .before .before), v-tested c)
+returns c = rw (y-tested (c .before .before .before .before .before .before), h-tested (c .before .before .before), v-tested c)
 
 same-as-requires : tie.Need-same-as-requires
 same-as-requires c κs = search needs

@@ -35,7 +35,7 @@ a-tested c =
 
 returns : tie.Need-returns
 unfolding withinBounds
-returns c = cc (y0-tested (c .before .before .before .before .before .before .before .before .before), h-tested (c .before .before .before .before .before .before), v-tested (c .before .before .before), a-tested c)
+returns c = rw (y0-tested (c .before .before .before .before .before .before .before .before .before), h-tested (c .before .before .before .before .before .before), v-tested (c .before .before .before), a-tested c)
 
 rises-requires : tie.Need-rises-requires
 rises-requires c κs = search needs
