@@ -10,7 +10,7 @@ ghost use Prim.Native.Nat.{_+_, _<_, _≤_, min};
 ghost use lib.Dec.{ltb};
 ghost use lib.ListN.{length, take, drop};
 
-// Room for the input: three lines of 256 bytes each, at most, and what comes with them.
+// Room for what is read of the input at a time.
 const INPUT: usize = 4096;
 
 // The number of a line of no known form.
