@@ -86,7 +86,7 @@ fn put_name(name: &[u8], memory: &mut [u8]) -> usize
 }
 
 fn main() {
-    let mut sheet = files::sheet_room();
+    let mut sheet = io::large_buffer();
     let mut input = [0u8; INPUT];
     let mut name = [0u8; 256];
     let first = files::read_line(&mut input, 0, 0);

@@ -1,14 +1,13 @@
 -- The minutes at which a sheet that passes differs are those of its differing rows; so where f holds at no minute but two, these two alone are to be asked. Assumes nothing.
-use mathlib.Core.Path.{_≡_, refl, sym, ap, subst, _∙_}
+use mathlib.Core.Path.{_≡_, refl, sym, ap, _∙_}
 use mathlib.Core.Bool.{Bool, true, false, cond, _&&_, _||_}
 use mathlib.Core.List.{List, [], _∷_, _++_}
 use mathlib.Core.Logic.{_⊎_, inl, inr, ⊎-elim}
 use Prim.Native.Nat.{ℕ, zero, suc, _-_, _<_}
 use native.Mathlib.Decide.{ℕ-discrete}
 use native.Mathlib.Omega.{arith}
-use lib.Dec.{T}
 use lib.IntN.{ℤ, pos}
-use Rattle.figures.proofs.Tests.{both}
+use Rattle.figures.proofs.Tests.{both, never}
 use Rattle.entries.specs.Layout.{latitude}
 use Rattle.entries.specs.Entries.{rowsOf, bodyOf}
 use Rattle.rules.specs.Limits.{inRange}
@@ -21,9 +20,6 @@ use Rattle.judge.proofs.Minutes.{each-named}
 use Rattle.differing.specs.Differing.{minuteAt, rowDiffers, minuteWhere, differing, differingRows, anyOf, differsAt, isDiffering}
 
 -- ---- of tests
-never : {A : Type 0} → false ≡ true → A
-never h = absurd (subst T (sym h) tt)
-
 or-assoc : (a b c : Bool) → a || (b || c) ≡ (a || b) || c
 or-assoc true b c = refl
 or-assoc false b c = refl

@@ -1,6 +1,6 @@
 -- The entries of the contents, and where each kind's body lies. Entries count from 0 here.
--- Word 0, kind, start and rows are read without a sign. A word below zero then reads 2³¹ or more: that is not 6, no kind, over every limit of rows and, where the
--- entries before have no fault, no word at which a body may have to start, since no body ends past word 10,153.
+-- Word 0, kind, start and rows are read without a sign. A negative word reads as 2³¹ or more, and so is refused as any other wrong one: it is not 6, not a kind, above every limit of rows, and past
+-- every word at which a body may start, since no body ends past word 10,153.
 use mathlib.Core.Bool.{Bool, false, cond, _||_}
 use mathlib.Core.List.{List}
 use Prim.Native.Nat.{ℕ, zero, suc, _+_, _*_}

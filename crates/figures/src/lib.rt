@@ -40,7 +40,7 @@ pub fn nearest(n: i64, d: u64) -> i64
     with_sign(n, nearest_size(size(n), d) as i64)
 }
 
-// d, less one where n is below what it was raised by: what is added to 2n there, so that a half goes down.
+// What is added to 2n before the division by 2d: d, or one less where n is below what it was raised by. The number is negative there, and its half goes down, away from zero.
 fn half(n: u64, d: u64, raised: u64) -> u64
     requires { ⌜ 0 < d ⌝ }
     ensures { λ r. ⌜ (n < raised → r + 1 ≡ d) × (raised ≤ n → r ≡ d) ⌝ }

@@ -205,13 +205,6 @@ fn read_sheet(fd: i32, sheet: &mut [u8]) -> Got
     }
 }
 
-// Memory for a sheet's file, longer than any sheet that passes. It is made apart because the proof of a function that holds so long an array would spell it out.
-pub fn sheet_room() -> [u8; 65536]
-    ensures { λ r. ⌜ 65_536 ≡ length r ⌝ }
-{
-    [0; 65536]
-}
-
 // Says which file could not be read, and why.
 fn say_unread(name: &[u8])
     requires { ⌜ length (now name) < 256 ⌝ }

@@ -1,4 +1,4 @@
--- One turn of the points program's loop, on a sheet s that passes: bytes are read behind those that are kept, and the lines that have ended are answered.
+-- One turn of the points program's loop, on a sheet s that passes: what was read behind the kept bytes of the buffer is taken. That the system gave these bytes, no contract can say.
 use Prim.Native.Nat.{ℕ, _<_, _≤_}
 use mathlib.Core.Path.{_≡_}
 use mathlib.Core.Bool.{true, false}
@@ -7,17 +7,17 @@ use lib.ListN.{length, take}
 use Rattle.decimal.specs.Writing.{Wrote}
 use Rattle.stream.specs.Stream.{lastLine, mostKept}
 use Rattle.blocks.specs.Blocks.{answersOf, Answered}
+use Rattle.files.specs.declared.More.{More}
 use Rattle.points.specs.declared.State.{State}
 
-pub record Turned (s buffer after : List ℕ) (kept : ℕ) (old new : List ℕ) (r : State) : Type 0 where
-  -- the buffer after the read: the kept bytes as they were, and more behind them, up to `to`. That the system gave these, no contract can say.
-  pub read : List ℕ
-  pub to : ℕ
-  pub stays : take kept read ≡ take kept buffer
-  -- as long as there is more, its lines that have ended are answered, and the one that has not is kept
-  pub more : r .ended ≡ false → (kept < to) × (to ≤ length read) × Answered s read after 0 to old new (r .done)
-  -- at the input's end, the answer is that to what is left; where the read failed, there is none
-  pub last : r .ended ≡ true → r .failed ≡ false → Wrote old new 0 (r .done .at) (answersOf s (lastLine (take kept buffer)))
-  pub none : r .failed ≡ true → r .done .at ≡ 0
+pub record Turned (s buffer after : List ℕ) (kept : ℕ) (m : More) (old new : List ℕ) (r : State) : Type 0 where
+  -- where bytes have come, the lines that have ended are answered, and the one that has not is kept
+  pub more : kept < m .to → (r .ended ≡ false) × Answered s buffer after 0 (m .to) old new (r .done)
+  -- at the input's end, what is left is answered
+  pub last : m .to ≤ kept → m .failed ≡ false → (r .ended ≡ true) × Wrote old new 0 (r .done .at) (answersOf s (lastLine (take kept buffer)))
+  -- where the read failed, nothing is
+  pub none : m .to ≤ kept → m .failed ≡ true → (r .ended ≡ true) × (r .done .at ≡ 0) × (new ≡ old)
+  -- then the buffer stays as it is
+  pub stays : m .to ≤ kept → after ≡ buffer
   pub few : r .done .kept ≤ mostKept
   pub fits : r .done .at ≤ length old

@@ -2,6 +2,7 @@
 // come in is answered before more is read.
 use blocks::Done;
 use entries::Places;
+use files::More;
 ghost use mathlib.Core.Path.{_≡_};
 ghost use Prim.Native.Nat.{_*_, _≤_, _<_};
 ghost use lib.ListN.{length};
@@ -20,36 +21,28 @@ const OUTPUT: usize = 1_098_240;
 struct State {
     done: Done,
     ended: bool,
-    failed: bool,
 }
 
-// Reads a piece behind what is kept and answers the lines that have ended; at the input's end, what is left. A line that a failed read cut is not answered.
-fn turn(sheet: &[u8], p: Places, input: &mut [u8], kept: usize, out: &mut [u8]) -> State
-    requires { ⌜ (checkOf (now sheet) .number ≡ 0) × (p ≡ placesOf (now sheet)) × (kept ≤ mostKept) × (mostKept < length (now input)) × (lineRoom * length (now input) ≤ length (now out)) ⌝ }
-    ensures { λ r. ⌜ Turned (now (sheet .entry)) (now (input .entry)) (now (input .exit)) kept (now (out .entry)) (now (out .exit)) r ⌝ }
+// Takes what was read behind the first `kept` bytes, and answers the lines that have ended; at the input's end, what is left. A line that a failed read cut is not answered.
+fn turn(sheet: &[u8], p: Places, input: &mut [u8], kept: usize, more: More, out: &mut [u8]) -> State
+    requires { ⌜ (checkOf (now sheet) .number ≡ 0) × (p ≡ placesOf (now sheet)) × (kept ≤ mostKept) × (mostKept < length (now input)) × (more .to ≤ length (now input)) × (lineRoom * length (now input) ≤ length (now out)) ⌝ }
+    ensures { λ r. ⌜ Turned (now (sheet .entry)) (now (input .entry)) (now (input .exit)) kept more (now (out .entry)) (now (out .exit)) r ⌝ }
 {
-    let more = files::read_on(input, kept);
     let to = more.to;
     if kept < to {
         let done = blocks::answer_block(sheet, p, input, 0, to, out);
-        return State {
-            done,
-            ended: false,
-            failed: false,
-        };
+        return State { done, ended: false };
     }
     if more.failed {
         return State {
             done: Done { kept: 0, at: 0 },
             ended: true,
-            failed: true,
         };
     }
     let at = blocks::answer_last(sheet, p, input, kept, out);
     State {
         done: Done { kept: 0, at },
         ended: true,
-        failed: false,
     }
 }
 
@@ -59,18 +52,16 @@ fn answer_input(sheet: &[u8], p: Places, input: &mut [u8], from: usize, to: usiz
     requires { ⌜ (checkOf (now sheet) .number ≡ 0) × (p ≡ placesOf (now sheet)) × (from ≤ to) × (to ≤ length (now input)) × (mostKept < length (now input)) × (lineRoom * length (now input) ≤ length (now out)) ⌝ }
 {
     let done = blocks::answer_block(sheet, p, input, from, to, out);
-    let mut s = State {
-        done,
-        ended: false,
-        failed: false,
-    };
+    let mut s = State { done, ended: false };
     let mut turns = u64::MAX;
     while 0 < turns {
         let at = s.done.at;
         if !files::tell(&out[0..at]) | s.ended {
             return;
         }
-        s = turn(sheet, p, input, s.done.kept, out);
+        let kept = s.done.kept;
+        let more = files::read_on(input, kept);
+        s = turn(sheet, p, input, kept, more, out);
         turns -= 1;
     }
 }

@@ -4,8 +4,8 @@ use mathlib.Core.Bool.{Bool, true, false, not, _&&_, _||_}
 use mathlib.Core.List.{List}
 use Prim.Native.Nat.{ℕ, _-_}
 use native.Mathlib.Decide.{ℕ-discrete}
-use native.Mathlib.Omega.{arith}
 use lib.IntN.{ℤ, pos}
+use Rattle.figures.proofs.Tests.{never}
 use Rattle.words.specs.Ladder.{need, whereIs}
 use Rattle.words.proofs.Refusals.{is, is-not}
 use Rattle.entries.specs.Layout.{latitude}
@@ -32,9 +32,6 @@ use Rattle.compared.proofs.Comparing.{answers-same}
 use Rattle.promises.specs.Corrections.{Passes, putIn}
 use Rattle.promises.specs.Redo.{NoneMissed}
 use Rattle.promises.proofs.Corrections as corrections
-
-never : {A : Type 0} → false ≡ true → A
-never h = let e : _≡_ {A = ℕ} 0 1 = cc in absurd (omega arith)
 
 or-false : (a b : Bool) → a || b ≡ false → a ≡ false
 or-false false b h = refl

@@ -1,5 +1,5 @@
 -- On a sheet that passes no row touches a line but those of `lowerMinute` and of the minute after it. Assumes nothing.
-use mathlib.Core.Path.{_≡_, refl, sym, ap, subst, _∙_}
+use mathlib.Core.Path.{_≡_, refl, sym, ap, _∙_}
 use mathlib.Core.Bool.{Bool, true, false, cond, _&&_}
 use mathlib.Core.List.{List}
 use mathlib.Core.Logic.{_⊎_, inl, inr, ⊎-elim}
@@ -9,12 +9,12 @@ use native.Mathlib.Nat.{div-add-mod', mod-lt, mul-div-cancel}
 use native.Mathlib.Numerals.{add-one}
 use native.Mathlib.Omega.{arith}
 use borrow.Author.Tests.{ltb-true}
-use lib.Dec.{T, eqb, lit<}
+use lib.Dec.{eqb, lit<}
 use lib.IntN.{ℤ, pos, natAbs, _+ℤ_, _-ℤ_, _*ℤ_, +ℤ-idr, -ℤ-+ℤ-cancel}
 use lib.Signed.{leZ, ltZ}
 use Rattle.figures.proofs.Sizes.{pos-minus, subℕ-le, subℕ-lt, size-product}
 use Rattle.figures.proofs.Bits.{both-same}
-use Rattle.figures.proofs.Tests.{both}
+use Rattle.figures.proofs.Tests.{both, never}
 use Rattle.figures.proofs.Order.{above-of, not-above-of, not-below-of, ltZ-le, ltZ-leZ, leZ-trans, heights-le}
 use Rattle.words.specs.Ladder.{need, whereIs}
 use Rattle.words.proofs.Refusals.{where-below}
@@ -38,9 +38,6 @@ use Rattle.asked.specs.declared.Line.{Line}
 use Rattle.reached.specs.Reached.{touches, firstMinute, planeMinute, lowerMinute}
 
 -- ---- of tests
-never : {A : Type 0} → false ≡ true → A
-never h = absurd (subst T (sym h) tt)
-
 need-true : (a b : Bool) → need a false b ≡ true → (a ≡ true) × (b ≡ true)
 unfolding need
 need-true true b h = (refl, h)

@@ -1,5 +1,5 @@
 -- One turn of the redo program. Assumes nothing.
-use mathlib.Core.Path.{_≡_, refl, sym}
+use mathlib.Core.Path.{_≡_, refl, sym, _∙_}
 use mathlib.Core.Bool.{true, false}
 use mathlib.Core.List.{List}
 use Prim.Native.Nat.{ℕ, _<_, _≤_}
@@ -9,18 +9,19 @@ use Rattle.decimal.specs.Writing.{Wrote}
 use Rattle.stream.specs.Stream.{lastLine}
 use Rattle.stream.specs.Pieces.{after, written}
 use Rattle.stream.proofs.Cases.{never}
-use Rattle.redone.specs.declared.Tally.{Tally}
+use Rattle.files.specs.declared.More.{More}
 use Rattle.redone.specs.declared.Done.{Done}
 use Rattle.redone.specs.Redone.{comparing, Compared}
 use Rattle.redo.specs.Turn.{Turned}
 
-module _ (s t buffer next : List ℕ) (kept : ℕ) (a : Tally) (old new read : List ℕ) (to : ℕ) (e : take kept read ≡ take kept buffer) where
-  pub on : (d : Done) → kept < to → to ≤ length read → Compared s t read next 0 to a old new d → Turned s t buffer next kept a old new (record { done = d; ended = false; failed = false })
-  on d h l c = record { read = read; to = to; stays = e; more = λ z. (h, l, c); last = λ z. never (sym z); none = λ z. never (sym z); few = c .few; fits = c .fits }
+module _ (s t buffer next : List ℕ) (d : Done) (m : More) (old new : List ℕ) where
+  pub on : d .kept < m .to → (r : Done) → Compared s t buffer next 0 (m .to) (d .tally) old new r → Turned s t buffer next d m old new (record { done = r; ended = false })
+  on h r c = record { more = λ z. (refl, c); last = λ l. absurd (omega (arith, h, l)); none = λ l. absurd (omega (arith, h, l)); stays = λ l. absurd (omega (arith, h, l)); few = c .few; fits = c .fits }
 
-  pub failed : Turned s t buffer next kept a old new (record { done = record { kept = 0; at = 0; tally = a }; ended = true; failed = true })
-  failed = record { read = read; to = to; stays = e; more = λ z. never z; last = λ z f. never f; none = λ z. (refl, refl); few = omega arith; fits = omega arith }
+  module _ (l : m .to ≤ d .kept) (k : next ≡ buffer) where
+    pub failed : m .failed ≡ true → new ≡ old → Turned s t buffer next d m old new (record { done = record { kept = 0; at = 0; tally = d .tally }; ended = true })
+    failed f e = record { more = λ h. absurd (omega (arith, h, l)); last = λ z g. never (sym f ∙ g); none = λ z g. (refl, refl, refl, e); stays = λ z. k; few = omega arith; fits = omega arith }
 
-  pub done : (d : Done) → d .kept ≡ 0 → d .at ≤ length old → d .tally ≡ after (comparing s t) a (lastLine (take kept read)) → Wrote old new 0 (d .at) (written (comparing s t) a (lastLine (take kept read)))
-      → Turned s t buffer next kept a old new (record { done = d; ended = true; failed = false })
-  done d n l c w = record { read = read; to = to; stays = e; more = λ z. never z; last = λ z f. (rw e at w, rw e at c); none = λ z. never (sym z); few = omega (arith, n); fits = l }
+    pub done : m .failed ≡ false → (r : Done) → r .kept ≡ 0 → r .at ≤ length old → r .tally ≡ after (comparing s t) (d .tally) (lastLine (take (d .kept) buffer)) → Wrote old new 0 (r .at) (written (comparing s t) (d .tally) (lastLine (take (d .kept) buffer)))
+        → Turned s t buffer next d m old new (record { done = r; ended = true })
+    done f r n b c w = record { more = λ h. absurd (omega (arith, h, l)); last = λ z g. (refl, w, c); none = λ z g. never (sym g ∙ f); stays = λ z. k; few = omega (arith, n); fits = b }

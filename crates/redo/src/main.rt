@@ -2,6 +2,7 @@
 // check's answer for each sheet and, where both are 0, each line whose answer changes, with both answers, and at the end how many points there were, how many changed and how many the correction may
 // touch. Standard error: how many lines were of no known form. What has come in is compared before more is read.
 use compared::BothPlaces;
+use files::More;
 use redone::Done;
 use redone::Held;
 use redone::Tally;
@@ -23,57 +24,44 @@ const OUTPUT: usize = 1_084_160;
 struct State {
     done: Done,
     ended: bool,
-    failed: bool,
 }
 
 // ---- the loop
 
-// Reads a piece behind what is kept and compares the lines that have ended; at the input's end, what is left. A line that a failed read cut is not compared, and no counts are written then: they would
-// be those of another input.
+// Takes what was read behind the bytes that the turn before kept, and compares the lines that have ended; at the input's end, what is left. A line that a failed read cut is not compared, and no counts
+// are written then: they would be those of another input.
 fn turn(
     old: &[u8],
     new: &[u8],
     places: BothPlaces,
     input: &mut [u8],
-    kept: usize,
-    a: Tally,
+    prior: Done,
+    more: More,
     out: &mut [u8],
 ) -> State
-    requires { ⌜ (checkOf (now old) .number ≡ 0) × (places .old ≡ placesOf (now old)) × (checkOf (now new) .number ≡ 0) × (places .new ≡ placesOf (now new)) × (kept ≤ mostKept) × (mostKept < length (now input)) × (changeRoom * length (now input) ≤ length (now out)) ⌝ }
-    ensures { λ r. ⌜ Turned (now (old .entry)) (now (new .entry)) (now (input .entry)) (now (input .exit)) kept a (now (out .entry)) (now (out .exit)) r ⌝ }
+    requires { ⌜ (checkOf (now old) .number ≡ 0) × (places .old ≡ placesOf (now old)) × (checkOf (now new) .number ≡ 0) × (places .new ≡ placesOf (now new)) × (prior .kept ≤ mostKept) × (mostKept < length (now input)) × (more .to ≤ length (now input)) × (changeRoom * length (now input) ≤ length (now out)) ⌝ }
+    ensures { λ r. ⌜ Turned (now (old .entry)) (now (new .entry)) (now (input .entry)) (now (input .exit)) prior more (now (out .entry)) (now (out .exit)) r ⌝ }
 {
-    let more = files::read_on(input, kept);
+    let kept = prior.kept;
     let to = more.to;
+    let tally = prior.tally;
     if kept < to {
-        let h = Held {
-            from: 0,
-            to,
-            tally: a,
-        };
+        let h = Held { from: 0, to, tally };
         let done = redone::compare_block(old, new, places, input, h, out);
-        return State {
-            done,
-            ended: false,
-            failed: false,
-        };
+        return State { done, ended: false };
     }
     if more.failed {
         return State {
             done: Done {
                 kept: 0,
                 at: 0,
-                tally: a,
+                tally,
             },
             ended: true,
-            failed: true,
         };
     }
-    let done = redone::compare_last(old, new, places, input, kept, a, out);
-    State {
-        done,
-        ended: true,
-        failed: false,
-    }
+    let done = redone::compare_last(old, new, places, input, kept, tally, out);
+    State { done, ended: true }
 }
 
 // Compares the lines that are held and those of what is read behind them, and writes the changed ones out after each piece; the tally. A proved loop has to end, so it counts its turns down from a
@@ -89,11 +77,7 @@ fn compare_input(
     requires { ⌜ (checkOf (now old) .number ≡ 0) × (places .old ≡ placesOf (now old)) × (checkOf (now new) .number ≡ 0) × (places .new ≡ placesOf (now new)) × (h .from ≤ h .to) × (h .to ≤ length (now input)) × (mostKept < length (now input)) × (changeRoom * length (now input) ≤ length (now out)) ⌝ }
 {
     let done = redone::compare_block(old, new, places, input, h, out);
-    let mut s = State {
-        done,
-        ended: false,
-        failed: false,
-    };
+    let mut s = State { done, ended: false };
     let mut turns = u64::MAX;
     while 0 < turns {
         let at = s.done.at;
@@ -101,7 +85,8 @@ fn compare_input(
         if !files::tell(&out[0..at]) | s.ended {
             return a;
         }
-        s = turn(old, new, places, input, s.done.kept, a, out);
+        let more = files::read_on(input, s.done.kept);
+        s = turn(old, new, places, input, s.done, more, out);
         turns -= 1;
     }
     s.done.tally
@@ -113,9 +98,10 @@ fn say_stray(a: Tally) {
         return;
     }
     let mut out = [0u8; 64];
+    files::say(b"lines of no known form: ");
     let n = decimal::put_size(&mut out, 0, less(a.lines, a.points));
     files::say(&out[0..n]);
-    files::say(b" of the lines are of no known form, the first of them line ");
+    files::say(b"; the first is line ");
     let m = decimal::put_size(&mut out, 0, a.stray);
     files::say(&out[0..m]);
     files::say(b"\n");
@@ -180,8 +166,8 @@ fn output() -> [u8; OUTPUT]
 }
 
 fn main() {
-    let mut old = files::sheet_room();
-    let mut new = files::sheet_room();
+    let mut old = io::large_buffer();
+    let mut new = io::large_buffer();
     let mut input = [0u8; INPUT];
     let mut out = output();
     let first = files::read_line(&mut input, 0, 0);

@@ -41,11 +41,14 @@ same-length-2 c = search needs
 returns : tie.Need-returns Inv-loop μ-loop
 returns c = search needs
 
+read-on-requires : tie.Need-read-on-requires Inv-loop μ-loop
+read-on-requires c κs = search needs
+
 turn-requires : tie.Need-turn-requires Inv-loop μ-loop
 turn-requires c κs =
-    let l = c .before .before .before .before .before .before .before .before .before .loop in
-    let first = c .before .before .before .before .before .before .before .before .before .before .before .before .before .before .before .before .before .before .before .before .before in
-    (first .pre .0, first .pre .1, first .pre .2, first .pre .3, l .inv .0, l .inv .4, l .inv .5)
+    let l = c .before .before .before .before .before .before .before .before .before .before .before .before .before .loop in
+    let first = c .before .before .before .before .before .before .before .before .before .before .before .before .before .before .before .before .before .before .before .before .before .before .before .before .before in
+    (first .pre .0, first .pre .1, first .pre .2, first .pre .3, l .inv .0, search needs, search needs, search needs)
 
 sub-turns : tie.Need-sub-turns Inv-loop μ-loop
 sub-turns c = search needs
@@ -80,6 +83,7 @@ compare-input-spec =
     same-length
     same-length-2
     returns
+    read-on-requires
     turn-requires
     sub-turns
     loop-less
