@@ -13,10 +13,12 @@ use Rattle.inverse.specs.Inverse.{inverseOf, fromReduced, fromDistance, geograp
 use Rattle.grid.specs.Grid.{gridOf, gridAt}
 use Rattle.convert.specs.Conversions.{geographicToPlane, planeToGeographic, convergenceAndScale}
 use Rattle.door.specs.declared.Point.{Point}
-use Rattle.counts.specs.declared.Whole.the-variants.{Count}
+use Rattle.counts.specs.declared.Whole.{Whole}
+use Rattle.counts.specs.declared.Whole.the-variants.{Count, No}
 use Rattle.door.specs.declared.Answer.{Answer}
 use Rattle.door.specs.declared.Answer.the-variants.{Refused}
-use Rattle.counts.specs.Whole.{float, wholeOf}
+use Rattle.counts.specs.Whole.{float, wholeOf, valueOf}
+use Rattle.counts.specs.Whole as whole
 use Rattle.door.specs.Door.{countsOf, answerOf, doorOf, numberOf, firstOf, secondOf, toPlane, toGeographic, toGrid}
 use Rattle.door.specs.Meaning.{Told, Tells}
 use Rattle.door.proofs.Ways.{first-none, second-none, both-counts, refuses, answers, before, after}
@@ -77,6 +79,15 @@ told (suc n) a b z =
 fifteen : (answer : Answer) → Refused 15 ≡ answer → Told answer 15 (pos 0) (pos 0)
 fifteen answer e = record { numbered = ap numberOf (sym e); one = ap firstOf (sym e); two = ap secondOf (sym e) }
 
+-- ---- a float by its number
+is-count : (w : Whole) → whole.numberOf w ≡ 0 → w ≡ Count (valueOf w)
+is-count (Count n) e = refl
+is-count No e = absurd (omega (arith, e))
+
+is-none : (w : Whole) → whole.numberOf w ≡ 15 → w ≡ No
+is-none (Count n) e = absurd (omega (arith, e))
+is-none No e = refl
+
 -- ---- a door, of any conversion f whose refusals carry zeros
 module _ {R : Type 0} (f : ℤ → ℤ → R) (number : R → ℕ) (one two : R → ℤ) (z : (a b : ℤ) → Zeroed number one two (f a b)) where
   abbrev tell : R → Answer
@@ -92,9 +103,9 @@ module _ {R : Type 0} (f : ℤ → ℤ → R) (number : R → ℕ) (one two : R 
 
   tells : Tells door (λ a b. number (f a b)) (λ a b. one (f a b)) (λ a b. two (f a b))
   tells = record {
-    counts = of-counts;
-    first-none = λ p e. fifteen (door p) (before (countsOf p) (λ a b. tell (f a b)) (sym (first-none _ _ e)));
-    second-none = λ p e. fifteen (door p) (before (countsOf p) (λ a b. tell (f a b)) (sym (second-none _ _ e)));
+    counts = λ p e g. of-counts p _ _ (is-count _ e) (is-count _ g);
+    first-none = λ p e. fifteen (door p) (before (countsOf p) (λ a b. tell (f a b)) (sym (first-none _ _ (is-none _ e))));
+    second-none = λ p e. fifteen (door p) (before (countsOf p) (λ a b. tell (f a b)) (sym (second-none _ _ (is-none _ e))));
   }
 
 -- a door that tells what one conversion answers tells what another does that always answers the same
@@ -102,7 +113,7 @@ pub tells-as : {R : Type 0} (door : Point → Answer) (f g : ℤ → ℤ → R) 
     → Tells door (λ a b. number (f a b)) (λ a b. one (f a b)) (λ a b. two (f a b))
     → Tells door (λ a b. number (g a b)) (λ a b. one (g a b)) (λ a b. two (g a b))
 tells-as door f g number one two same t =
-    record { counts = λ p a b e h. rw (← same a b) (t .counts p a b e h); first-none = t .first-none; second-none = t .second-none }
+    record { counts = λ p e h. rw (← same (valueOf (wholeOf (p .first))) (valueOf (wholeOf (p .second)))) (t .counts p e h); first-none = t .first-none; second-none = t .second-none }
 
 module _ (s : List ℕ) where
   pub plane-tells : Tells (toPlane s) (λ a b. geographicToPlane s a b .number) (λ a b. geographicToPlane s a b .x) (λ a b. geographicToPlane s a b .y)

@@ -4,8 +4,8 @@ use Prim.Native.Nat.{ℕ}
 use lib.IntN.{ℤ, pos}
 use Rattle.door.specs.declared.Point.{Point}
 use Rattle.door.specs.declared.Answer.{Answer}
-use Rattle.counts.specs.declared.Whole.the-variants.{Count, No}
-use Rattle.counts.specs.Whole.{float, wholeOf}
+use Rattle.counts.specs.Whole.{float, wholeOf, valueOf}
+use Rattle.counts.specs.Whole as whole
 use Rattle.door.specs.Door.{numberOf, firstOf, secondOf}
 
 -- The answer tells this number and these two values.
@@ -16,6 +16,7 @@ pub record Told (answer : Answer) (number : ℕ) (a b : ℤ) : Type 0 where
 
 -- A door tells what the conversion answers, where both floats are counts; and 15 with zeros where one is not, whatever the sheet.
 pub record Tells (door : Point → Answer) (number : ℤ → ℤ → ℕ) (one two : ℤ → ℤ → ℤ) : Type 0 where
-  pub counts : (p : Point) (a b : ℤ) → wholeOf (p .first) ≡ Count a → wholeOf (p .second) ≡ Count b → Told (door p) (number a b) (one a b) (two a b)
-  pub first-none : (p : Point) → wholeOf (p .first) ≡ No → Told (door p) 15 (pos 0) (pos 0)
-  pub second-none : (p : Point) → wholeOf (p .second) ≡ No → Told (door p) 15 (pos 0) (pos 0)
+  pub counts : (p : Point) → whole.numberOf (wholeOf (p .first)) ≡ 0 → whole.numberOf (wholeOf (p .second)) ≡ 0
+      → let a = valueOf (wholeOf (p .first)) in let b = valueOf (wholeOf (p .second)) in Told (door p) (number a b) (one a b) (two a b)
+  pub first-none : (p : Point) → whole.numberOf (wholeOf (p .first)) ≡ 15 → Told (door p) 15 (pos 0) (pos 0)
+  pub second-none : (p : Point) → whole.numberOf (wholeOf (p .second)) ≡ 15 → Told (door p) 15 (pos 0) (pos 0)

@@ -65,7 +65,7 @@ word-fits : (z : ℤ) → Word z → SFits w32 z
 word-fits (pos n) h = record { sfits = omega (arith, leb-true n 2_147_483_647 (h .1)) }
 word-fits (negsuc n) h = record { sfits = omega (arith, leb-true n 2_147_483_647 (h .0)) }
 
-words-fit : (f : Figures) → Words f → FiguresFit f
+pub words-fit : (f : Figures) → Words f → FiguresFit f
 words-fit f h = record { y0 = word-fits (f .y0) (h .0); h = word-fits (f .h) (h .1); v = word-fits (f .v) (h .2); a = word-fits (f .a) (h .3) }
 
 -- ---- how far the first y0 and the last of a sheet that passes can lie from their neighbours
@@ -167,7 +167,7 @@ module _ (s : List ℕ) (passes : Passes s) (minute : ℤ) (f : Figures) where
     pub old : (i : ℕ) → (i ≡ r → ⊥) → figuresAt (bodyOf t latitude) i ≡ figuresAt b i
     old i h = rw (latitude-body s z r f) (figures-stay b n r f i h)
 
-    pub new : figuresAt (bodyOf t latitude) r ≡ f
+    new : figuresAt (bodyOf t latitude) r ≡ f
     new = rw (latitude-body s z r f) (figures-new b n r f (omega (arith, body-long s z r f)) (there has) (figures-fit f (keeps accepted .range)))
 
     -- t is s but for row r's figures

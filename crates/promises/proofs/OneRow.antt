@@ -18,19 +18,20 @@ use Rattle.rules.specs.declared.Figures.{Figures}
 use Rattle.rows.specs.Rows.{figuresAt, rowAt}
 use Rattle.bodies.specs.Check.{checkOf}
 use Rattle.tables.proofs.Parts.{contents-none}
-use Rattle.correct.specs.Correction.{correctionOf, correctedOf, withRow}
+use Rattle.correct.specs.Correction.{rewritten, correctionOf, correctedOf, withRow}
 use Rattle.correct.proofs.RowWords.{FiguresFit, figures-fit}
+use Rattle.correct.proofs.Rewritten.{figures-new}
 use Rattle.correct.proofs.Judged.{number-is}
 use Rattle.judge.proofs.Kept.{Kept, zero-keeps, kept-zero}
 use Rattle.touched.specs.Touched.{hasMinute, rowNamed}
-use Rattle.corrected.proofs.WithRow.{length-stays}
+use Rattle.corrected.proofs.WithRow.{length-stays, body-long, latitude-body}
 use Rattle.corrected.proofs.WholeCheck.{must-range, must-before, must-after}
 use Rattle.judge.proofs.Minutes.{each-named}
 use Rattle.corrected.proofs.OnlyRow.{row-keeps, start-kept, rows-kept, minute-kept, figures-range, only-row}
 use Rattle.corrected.proofs.StillBytes.{still-bytes}
-use Rattle.promises.specs.Corrections.{Passes, putIn}
+use Rattle.promises.specs.Corrections.{Passes, Words, putIn}
 use Rattle.promises.specs.OneRow.{wordOf, minuteIn, figuresIn, ButFor, Bytes, Reaches, ReachesRows, RefusedStays}
-use Rattle.promises.proofs.Corrections.{writes, only-then, new}
+use Rattle.promises.proofs.Corrections.{words-fit, writes, only-then}
 
 pub refused-stays : RefusedStays
 unfolding correctedOf
@@ -80,6 +81,18 @@ module _ (s : List ℕ) (passes : Passes s) (r : ℕ) (there : r < rowsOf s lati
   put-in : (f : Figures) → ButFor s (putIn s minute f) r
   put-in f = rw (put-is f) (record { long = length-stays s z r f; others = row-keeps s z r f there })
 
+  put-here : (f : Figures) → FiguresFit f → figuresIn (putIn s minute f) r ≡ f
+  put-here f fit =
+      let t = putIn s minute f in
+      let but : ButFor s t r = put-in f in
+      let start : startOf t latitude ≡ a = start-kept s z t r there (but .long) (but .others) in
+      let rows : rowsOf t latitude ≡ n = rows-kept s z t r there (but .long) (but .others) in
+      let body : bodyOf t latitude ≡ partOf t a (n * 8) = rw (start, rows) in
+      let new : bodyOf t latitude ≡ rewritten (bodyOf s latitude) n r f = rw (put-is f) (latitude-body s z r f) in
+      figures-are t start
+      ∙ ap (λ (u : List ℕ). figuresAt u r) (sym body ∙ new)
+      ∙ figures-new (bodyOf s latitude) n r f (omega (arith, body-long s z r f)) there fit
+
   same-minute : (t : List ℕ) → ButFor s t r → minuteIn t r ≡ minute
   same-minute t but =
       let at : a + 8 * r + 0 ≡ a + 8 * r = omega arith in
@@ -96,13 +109,7 @@ module _ (s : List ℕ) (passes : Passes s) (r : ℕ) (there : r < rowsOf s lati
   no-other : (f : Figures) → correctionOf s minute f ≡ 0
       → let t = correctedOf s minute f in Passes t × ButFor s t r × (figuresIn t r ≡ f) × (Bytes s → Bytes t)
   no-other f e =
-      let t = putIn s minute f in
-      let but : ButFor s t r = put-in f in
-      let start : startOf t latitude ≡ a = start-kept s z t r there (but .long) (but .others) in
-      let rows : rowsOf t latitude ≡ n = rows-kept s z t r there (but .long) (but .others) in
-      let body : bodyOf t latitude ≡ partOf t a (n * 8) = rw (start, rows) in
-      let here : figuresIn t r ≡ f = figures-are t start ∙ ap (λ (u : List ℕ). figuresAt u r) (sym body) ∙ ap (figuresAt (bodyOf t latitude)) (sym named) ∙ new s passes minute f e in
-      rw (writes s passes minute f e) (only-then s passes minute f e, but, here, bytes)
+      rw (writes s passes minute f e) (only-then s passes minute f e, put-in f, put-here f (figures-fit f (kept .range)), bytes)
     where
       kept : Kept (bodyOf s latitude) n minute f
       kept = zero-keeps (bodyOf s latitude) n minute f (sym (number-is s minute f z) ∙ e)
@@ -141,7 +148,7 @@ module _ (s : List ℕ) (passes : Passes s) (r : ℕ) (there : r < rowsOf s lati
     every = (accepted, writes s passes minute f accepted ∙ put-is f ∙ written)
 
   reaches : Reaches s r
-  reaches = record { every = every; no-other = no-other; keeps-minute = keeps-minute; put-in = put-in }
+  reaches = record { every = every; no-other = no-other; keeps-minute = keeps-minute; put-in = put-in; put-figures = λ f words. put-here f (words-fit f words) }
 
 pub reaches-rows : ReachesRows
 reaches-rows s passes r there = reaches s passes r there

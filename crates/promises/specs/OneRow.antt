@@ -1,5 +1,5 @@
--- Demand 3 by the check and by the words that may differ: which sheets a correction of row r reaches from s. Only `put-in` names the writer. But for `RefusedStays`, s passes and r is a
--- row of its latitude body, counted from 0; t is any sheet. Words are numbered from the sheet's start, and byte q lies in word q / 4.
+-- Demand 3 by the check and by the words that may differ: which sheets a correction of row r reaches from s. Only `put-in` and `put-figures` name the writer. But for `RefusedStays`, s
+-- passes and r is a row of its latitude body, counted from 0; t is any sheet. Words are numbered from the sheet's start, and byte q lies in word q / 4.
 use mathlib.Core.Path.{_≡_}
 use mathlib.Core.List.{List}
 use mathlib.Core.Logic.{_⊎_}
@@ -11,7 +11,7 @@ use Rattle.entries.specs.Layout.{latitude}
 use Rattle.entries.specs.Entries.{startOf, rowsOf}
 use Rattle.rules.specs.declared.Figures.{Figures}
 use Rattle.correct.specs.Correction.{figures, correctionOf, correctedOf}
-use Rattle.promises.specs.Corrections.{Passes, putIn}
+use Rattle.promises.specs.Corrections.{Passes, Words, putIn}
 
 -- "minute; y0; Δy; H; ΔH; V; ΔV; a": the word of column k, 0 to 7, in row i.
 abbrev pub wordOf : List ℕ → ℕ → ℕ → ℕ
@@ -50,6 +50,8 @@ pub record Reaches (s : List ℕ) (r : ℕ) : Type 0 where
   pub keeps-minute : (f : Figures) → minuteIn (correctedOf s (minuteIn s r) f) r ≡ minuteIn s r
   -- `putIn` too is s but for these words, even of figures that are refused.
   pub put-in : (f : Figures) → ButFor s (putIn s (minuteIn s r) f) r
+  -- Row r of it holds f, for figures that are refused too, where all four are signed 32-bit numbers.
+  pub put-figures : (f : Figures) → Words f → figuresIn (putIn s (minuteIn s r) f) r ≡ f
 
 abbrev pub ReachesRows : Type 0
 ReachesRows = (s : List ℕ) → Passes s → (r : ℕ) → r < rowsOf s latitude → Reaches s r
