@@ -14,7 +14,7 @@ pub record Told (answer : Answer) (number : ℕ) (a b : ℤ) : Type 0 where
   pub one : firstOf answer ≡ float a
   pub two : secondOf answer ≡ float b
 
--- A door tells what the conversion answers, where both floats are counts; and 15 with zeros where one is not, whatever the sheet.
+-- A door tells what the conversion answers, where both floats are counts; and 15 with zeros where one is not, whatever the conversion.
 pub record Tells (door : Point → Answer) (number : ℤ → ℤ → ℕ) (one two : ℤ → ℤ → ℤ) : Type 0 where
   pub counts : (p : Point) → whole.numberOf (wholeOf (p .first)) ≡ 0 → whole.numberOf (wholeOf (p .second)) ≡ 0
       → let a = valueOf (wholeOf (p .first)) in let b = valueOf (wholeOf (p .second)) in Told (door p) (number a b) (one a b) (two a b)

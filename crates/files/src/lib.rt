@@ -135,7 +135,7 @@ struct Got {
 // One read into buf from `from` on.
 fn read_once(fd: i32, buf: &mut [u8], from: usize) -> Got
     requires { ⌜ from ≤ length (now buf) ⌝ }
-    ensures { λ r. ⌜ (from + r .count ≤ length (now (buf .exit))) × (take from (now (buf .exit)) ≡ take from (now (buf .entry))) ⌝ }
+    ensures { λ r. ⌜ (from + r .count ≤ length (now (buf .exit))) × (take from (now (buf .exit)) ≡ take from (now (buf .entry))) × (r .failed ≡ true → r .count ≡ 0) ⌝ }
 {
     let end = buf.len();
     let got = libc::read(fd, &mut buf[from..end]);
@@ -159,7 +159,7 @@ fn is_interrupted(got: Got) -> bool {
 // One read into buf from `from` on, tried again where a signal interrupted it. A proved loop has to end, so it counts its turns down from a number that no run uses up.
 fn read_part(fd: i32, buf: &mut [u8], from: usize) -> Got
     requires { ⌜ from ≤ length (now buf) ⌝ }
-    ensures { λ r. ⌜ (from + r .count ≤ length (now (buf .exit))) × (take from (now (buf .exit)) ≡ take from (now (buf .entry))) ⌝ }
+    ensures { λ r. ⌜ (from + r .count ≤ length (now (buf .exit))) × (take from (now (buf .exit)) ≡ take from (now (buf .entry))) × (r .failed ≡ true → r .count ≡ 0) ⌝ }
 {
     let mut turns = u64::MAX;
     while 0 < turns {
@@ -247,7 +247,7 @@ pub struct More {
 // of none would pass for the input's end.
 pub fn read_on(input: &mut [u8], n: usize) -> More
     requires { ⌜ n < length (now input) ⌝ }
-    ensures { λ r. ⌜ (n ≤ r .to) × (r .to ≤ length (now (input .exit))) × (take n (now (input .exit)) ≡ take n (now (input .entry))) ⌝ }
+    ensures { λ r. ⌜ (n ≤ r .to) × (r .to ≤ length (now (input .exit))) × (take n (now (input .exit)) ≡ take n (now (input .entry))) × (r .failed ≡ true → r .to ≡ n) ⌝ }
 {
     let got = read_part(STDIN_FILENO, input, n);
     if got.failed {

@@ -19,7 +19,7 @@ module _ (s buffer after : List ℕ) (kept : ℕ) (m : More) (old new : List ℕ
 
   module _ (l : m .to ≤ kept) (k : after ≡ buffer) where
     pub failed : m .failed ≡ true → new ≡ old → Turned s buffer after kept m old new (record { done = record { kept = 0; at = 0 }; ended = true })
-    failed f e = record { more = λ h. absurd (omega (arith, h, l)); last = λ z g. never (sym f ∙ g); none = λ z g. (refl, refl, e); stays = λ z. k; few = omega arith; fits = omega arith }
+    failed f e = record { more = λ h. absurd (omega (arith, h, l)); last = λ z g. never (sym f ∙ g); none = λ z g. (refl, refl, refl, e); stays = λ z. k; few = omega arith; fits = omega arith }
 
     pub done : m .failed ≡ false → (at : ℕ) → at ≤ length old → Wrote old new 0 at (answersOf s (lastLine (take kept buffer))) → Turned s buffer after kept m old new (record { done = record { kept = 0; at = at }; ended = true })
-    done f at b w = record { more = λ h. absurd (omega (arith, h, l)); last = λ z g. (refl, w); none = λ z g. never (sym g ∙ f); stays = λ z. k; few = omega arith; fits = b }
+    done f at b w = record { more = λ h. absurd (omega (arith, h, l)); last = λ z g. (refl, refl, w); none = λ z g. never (sym g ∙ f); stays = λ z. k; few = omega arith; fits = b }

@@ -17,7 +17,7 @@ const INPUT: usize = 16_640;
 
 const OUTPUT: usize = 1_098_240;
 
-// What a turn left, and whether the input has ended or its reading failed.
+// What a turn left, or the first block, and whether the input has ended or its reading failed.
 struct State {
     done: Done,
     ended: bool,
@@ -25,7 +25,7 @@ struct State {
 
 // Takes what was read behind the first `kept` bytes, and answers the lines that have ended; at the input's end, what is left. A line that a failed read cut is not answered.
 fn turn(sheet: &[u8], p: Places, input: &mut [u8], kept: usize, more: More, out: &mut [u8]) -> State
-    requires { ⌜ (checkOf (now sheet) .number ≡ 0) × (p ≡ placesOf (now sheet)) × (kept ≤ mostKept) × (mostKept < length (now input)) × (more .to ≤ length (now input)) × (lineRoom * length (now input) ≤ length (now out)) ⌝ }
+    requires { ⌜ (checkOf (now sheet) .number ≡ 0) × (p ≡ placesOf (now sheet)) × (kept ≤ mostKept) × (mostKept < length (now input)) × (kept ≤ more .to) × (more .to ≤ length (now input)) × (lineRoom * length (now input) ≤ length (now out)) ⌝ }
     ensures { λ r. ⌜ Turned (now (sheet .entry)) (now (input .entry)) (now (input .exit)) kept more (now (out .entry)) (now (out .exit)) r ⌝ }
 {
     let to = more.to;

@@ -42,7 +42,7 @@ Word z = (leZ (negℤ (pos 2_147_483_648)) z ≡ true) × (leZ z (pos 2_147_483_
 abbrev pub Words : Figures → Type 0
 Words f = Word (f .y0) × Word (f .h) × Word (f .v) × Word (f .a)
 
--- The sheet with f in the minute's row, its minute kept, and the differences of that row and the row before reworked.
+-- The sheet with f in the minute's row, its minute kept, and the differences of that row and the row before reworked, where they fit a word.
 abbrev pub putIn : List ℕ → ℤ → Figures → List ℕ
 putIn s minute f = withRow s (rowNamed s minute) f
 

@@ -1,4 +1,4 @@
--- Demand 3 by the check and by the words that may differ: which sheets a correction of row r reaches from s. Only `put-in` and `put-figures` name the writer. But for `RefusedStays`, s
+-- Demand 3 by the check and by the words that may differ: which sheets a correction of row r reaches from s. Only `put-in` and `put-figures` name `putIn`, the writing without the judging. But for `RefusedStays`, s
 -- passes and r is a row of its latitude body, counted from 0; t is any sheet. Words are numbered from the sheet's start, and byte q lies in word q / 4.
 use mathlib.Core.Path.{_≡_}
 use mathlib.Core.List.{List}
@@ -48,9 +48,9 @@ pub record Reaches (s : List ℕ) (r : ℕ) : Type 0 where
       → let t = correctedOf s (minuteIn s r) f in Passes t × ButFor s t r × (figuresIn t r ≡ f) × (Bytes s → Bytes t)
   -- The row keeps its minute, accepted or refused.
   pub keeps-minute : (f : Figures) → minuteIn (correctedOf s (minuteIn s r) f) r ≡ minuteIn s r
-  -- `putIn` too is s but for these words, even of figures that are refused.
+  -- `putIn` too is s but for these words, for figures that are refused too.
   pub put-in : (f : Figures) → ButFor s (putIn s (minuteIn s r) f) r
-  -- Row r of it holds f, for figures that are refused too, where all four are signed 32-bit numbers.
+  -- Row r of `putIn`'s sheet holds f, for figures that are refused too, where all four are signed 32-bit numbers.
   pub put-figures : (f : Figures) → Words f → figuresIn (putIn s (minuteIn s r) f) r ≡ f
 
 abbrev pub ReachesRows : Type 0

@@ -20,8 +20,8 @@ module _ (s t buffer next : List ℕ) (d : Done) (m : More) (old new : List ℕ)
 
   module _ (l : m .to ≤ d .kept) (k : next ≡ buffer) where
     pub failed : m .failed ≡ true → new ≡ old → Turned s t buffer next d m old new (record { done = record { kept = 0; at = 0; tally = d .tally }; ended = true })
-    failed f e = record { more = λ h. absurd (omega (arith, h, l)); last = λ z g. never (sym f ∙ g); none = λ z g. (refl, refl, refl, e); stays = λ z. k; few = omega arith; fits = omega arith }
+    failed f e = record { more = λ h. absurd (omega (arith, h, l)); last = λ z g. never (sym f ∙ g); none = λ z g. (refl, refl, refl, refl, e); stays = λ z. k; few = omega arith; fits = omega arith }
 
     pub done : m .failed ≡ false → (r : Done) → r .kept ≡ 0 → r .at ≤ length old → r .tally ≡ after (comparing s t) (d .tally) (lastLine (take (d .kept) buffer)) → Wrote old new 0 (r .at) (written (comparing s t) (d .tally) (lastLine (take (d .kept) buffer)))
         → Turned s t buffer next d m old new (record { done = r; ended = true })
-    done f r n b c w = record { more = λ h. absurd (omega (arith, h, l)); last = λ z g. (refl, w, c); none = λ z g. never (sym g ∙ f); stays = λ z. k; few = omega (arith, n); fits = b }
+    done f r n b c w = record { more = λ h. absurd (omega (arith, h, l)); last = λ z g. (refl, n, w, c); none = λ z g. never (sym g ∙ f); stays = λ z. k; few = omega (arith, n); fits = b }

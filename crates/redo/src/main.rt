@@ -20,7 +20,7 @@ const INPUT: usize = 7_040;
 
 const OUTPUT: usize = 1_084_160;
 
-// What a turn left, and whether the input has ended or its reading failed.
+// What a turn left, or the first block, and whether the input has ended or its reading failed.
 struct State {
     done: Done,
     ended: bool,
@@ -28,8 +28,8 @@ struct State {
 
 // ---- the loop
 
-// Takes what was read behind the bytes that the turn before kept, and compares the lines that have ended; at the input's end, what is left. A line that a failed read cut is not compared, and no counts
-// are written then: they would be those of another input.
+// Takes what was read behind the bytes that are kept, and compares the lines that have ended; at the input's end, what is left. A line that a failed read cut is not compared, and no counts
+// are written then: they would count only a part of the input.
 fn turn(
     old: &[u8],
     new: &[u8],
@@ -39,7 +39,7 @@ fn turn(
     more: More,
     out: &mut [u8],
 ) -> State
-    requires { ⌜ (checkOf (now old) .number ≡ 0) × (places .old ≡ placesOf (now old)) × (checkOf (now new) .number ≡ 0) × (places .new ≡ placesOf (now new)) × (prior .kept ≤ mostKept) × (mostKept < length (now input)) × (more .to ≤ length (now input)) × (changeRoom * length (now input) ≤ length (now out)) ⌝ }
+    requires { ⌜ (checkOf (now old) .number ≡ 0) × (places .old ≡ placesOf (now old)) × (checkOf (now new) .number ≡ 0) × (places .new ≡ placesOf (now new)) × (prior .kept ≤ mostKept) × (mostKept < length (now input)) × (prior .kept ≤ more .to) × (more .to ≤ length (now input)) × (changeRoom * length (now input) ≤ length (now out)) ⌝ }
     ensures { λ r. ⌜ Turned (now (old .entry)) (now (new .entry)) (now (input .entry)) (now (input .exit)) prior more (now (out .entry)) (now (out .exit)) r ⌝ }
 {
     let kept = prior.kept;

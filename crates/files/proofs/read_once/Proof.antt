@@ -1,5 +1,5 @@
 -- `files::read_once` meets its contract. Assumes nothing.
-use mathlib.Core.Path.{_≡_}
+use mathlib.Core.Path.{_≡_, refl, sym}
 use native.Mathlib.Omega.{arith}
 use denote.Ref.{now}
 use borrow.Rule.Slice.PartMut.{putMid, take-put}
@@ -7,6 +7,7 @@ use Prim.Native.Nat.{_-_}
 use lib.ListN.{length, take}
 use mir.Syntax.{w64}
 use mir.Val.{toZ, ofZ}
+use Rattle.stream.proofs.Cases.{never}
 use Rattle.files.proofs.Moves.{moved-part, moved-size}
 use borrow.Author.Needs.{needs}
 use Rattle.files.proofs.read_once.Statement.{statement}
@@ -34,7 +35,7 @@ same-length : tie.Need-same-length
 same-length c = search needs
 
 returns : tie.Need-returns
-returns c = (search needs, stays (c .before .before .before))
+returns c = (search needs, stays (c .before .before .before), λ f. refl)
 
 cast-t7 : tie.Need-cast-t7
 cast-t7 c =
@@ -51,7 +52,7 @@ returns-2 c =
     let e = value (c .before .before .before) in
     let a = c .before .before .before .before .before .before .args in
     let most = moved-part (now (a .buf)) (a .from) (c .before .before .before .read .result) (c .before .before .before .read .ensures) (rw e at (c .if1 .left)) in
-    (rw e (omega (arith, same-length-2 c, most)), stays (c .before .before .before))
+    (rw e (omega (arith, same-length-2 c, most)), stays (c .before .before .before), λ f. never (sym f))
 
 pub read-once-spec : {M : Type 1} → statement M
 read-once-spec =

@@ -1,5 +1,5 @@
 -- `files::read_part` meets its contract. Assumes nothing.
-use mathlib.Core.Path.{_≡_, _∙_}
+use mathlib.Core.Path.{_≡_, refl, _∙_}
 use lib.ListN.{length, take}
 use borrow.Author.Needs.{needs}
 use Rattle.files.proofs.read_part.Statement.{statement}
@@ -27,7 +27,7 @@ returns : tie.Need-returns Inv-loop μ-loop
 returns c =
     let got = c .before .before .before .before .read-once in
     let l = c .before .before .before .before .before .before .before .loop in
-    (got .ensures .0, got .ensures .1 ∙ l .inv .1)
+    (got .ensures .0, got .ensures .1 ∙ l .inv .1, got .ensures .2)
 
 sub-turns : tie.Need-sub-turns Inv-loop μ-loop
 sub-turns c = search needs
@@ -45,7 +45,7 @@ same-length-2 : tie.Need-same-length-2 Inv-loop μ-loop
 same-length-2 c = search needs
 
 returns-2 : tie.Need-returns-2 Inv-loop μ-loop
-returns-2 c = search needs
+returns-2 c = (search needs, search needs, λ f. refl)
 
 pub read-part-spec : {M : Type 1} → statement M
 read-part-spec =
