@@ -1,5 +1,5 @@
 -- One turn of the points program's loop, on a sheet s that passes: what was read behind the kept bytes of the buffer is taken; m is what the read gave. That the system gave these bytes, no contract
--- can say. The buffer is as it is before the turn and after it, and so are old and new, the output's memory.
+-- can say. buffer and after are the input's memory before the turn and after it, old and new the output's.
 use Prim.Native.Nat.{ℕ, _<_, _≤_}
 use mathlib.Core.Path.{_≡_}
 use mathlib.Core.Bool.{true, false}
