@@ -1,98 +1,20 @@
--- Numbers raised by a multiple of the divisor, so that they are sizes: rounding them, and reading between rows whose figures are raised. Assumes nothing.
-use mathlib.Core.Path.{_≡_, refl, sym, ap, _∙_}
-use mathlib.Core.Bool.{Bool, true, false}
-use Prim.Native.Nat.{ℕ, zero, suc, _+_, _*_, _-_, _/_, _<_, _≤_}
-use native.Mathlib.Nat.{le-trans, div-add-mod', div-eq-of-lt-le, mul-left-comm, mul-le-mul-left, add-mul}
+-- Figures raised by 2³¹, so that they are sizes: reading between such rows, and such a figure beside a number. Assumes nothing.
+use mathlib.Core.Path.{_≡_, sym, ap, _∙_}
+use Prim.Native.Nat.{ℕ, _+_, _*_, _-_, _≤_}
+use native.Mathlib.Nat.{le-trans}
 use native.Mathlib.Omega.{arith}
-use lib.Dec.{ltb, lit≤}
-use borrow.Author.Tests.{ltb-true, ltb-false}
+use lib.Dec.{lit≤}
 use lib.IntN.{ℤ, pos, negℤ, _+ℤ_, _-ℤ_, _*ℤ_, +ℤ-assoc, +ℤ-comm, +ℤ-negℤ-cancel, -ℤ-+ℤ-cancel, negℤ-negℤ, negℤ-+ℤ}
 use lib.Signed.{leZ}
 use mir.Syntax.{w64}
 use mir.Val.{Fits}
-use Rattle.figures.specs.Nearest.{withSign, nearestSize, nearest}
+use Rattle.figures.specs.Nearest.{nearest}
 use Rattle.figures.specs.Between.{between, lowered}
-use Rattle.figures.specs.Ranges.{mostRow, mostStep, mostNumerator, mostDivisor}
+use Rattle.figures.specs.Ranges.{mostRow, mostStep, mostNumerator}
 use Rattle.figures.proofs.Order.{leZ-shift}
 use Rattle.figures.proofs.Ring.{times-sum, sum-times, swap-last}
-use Rattle.figures.proofs.Sizes.{product-most, pos-minus, subℕ-le, subℕ-lt}
-use Rattle.figures.proofs.Rounding.{is-nearest, nearest-minus, nearestSize-most}
+use Rattle.figures.proofs.Sizes.{product-most}
 use Rattle.figures.proofs.Interval.{between-weighed}
-
--- ---- rounding: n is raised by k·d
--- (a + e) − a = e, and a − (a + e) = −e
-more : (a e : ℕ) → pos (a + e) -ℤ pos a ≡ pos e
-more a e = pos-minus (a + e) a ∙ subℕ-le {a = a + e} {b = a} (omega arith) ∙ ap pos (omega arith)
-
-short : (a e : ℕ) → pos a -ℤ pos (a + e) ≡ negℤ (pos e)
-short a zero = pos-minus a (a + 0) ∙ subℕ-le {a = a} {b = a + 0} (omega arith) ∙ ap pos (omega arith)
-short a (suc e) = pos-minus a (a + suc e) ∙ subℕ-lt {a = a} {b = a + suc e} (omega arith) ∙ ap (λ (j : ℕ). negℤ (pos (suc j))) (omega arith)
-
--- what holds on either side of m holds
-either-side : {A : Type 0} (n m : ℕ) → (n < m → A) → (m ≤ n → A) → A
-either-side {A} n m f g = pick (ltb n m) refl
-  where
-    pick : (t : Bool) → ltb n m ≡ t → A
-    pick true e = f (ltb-true n m e)
-    pick false e = g (ltb-false n m e)
-
-module _ (d k : ℕ) (some : 0 < d) where
-  -- n/d = k + m/d
-  up : (m x : ℕ) → x ≡ 2 * (k * d + m) + d → x / (2 * d) ≡ k + nearestSize m d
-  up m x e =
-      let near = is-nearest m d some in
-      let r = nearestSize m d in
-      let twice = mul-left-comm (k + r) 2 d in
-      div-eq-of-lt-le {k = k + r} (2 * d)
-      (omega (arith, near .low, twice, add-mul k r d))
-      (omega (arith, near .high, twice, add-mul k r d, add-mul (k + r) 1 (2 * d)))
-
-  -- n/d = k − m/d, where k is the nearest to m/d and a rest r: a half goes to the greater size
-  down : (m r x : ℕ) → k ≡ r + nearestSize m d → x + 1 + 2 * m ≡ 2 * (k * d) + d → x / (2 * d) ≡ r
-  down m r x g e =
-      let near = is-nearest m d some in
-      let whole : k * d ≡ r * d + nearestSize m d * d = ap (λ (n : ℕ). n * d) g ∙ add-mul r (nearestSize m d) d in
-      let twice = mul-left-comm r 2 d in
-      div-eq-of-lt-le {k = r} (2 * d)
-      (omega (arith, near .high, twice, whole))
-      (omega (arith, near .low, twice, whole, add-mul r 1 (2 * d)))
-
-  nearest-above : (n x : ℕ) → k * d ≤ n → x ≡ 2 * n + d → pos (x / (2 * d)) -ℤ pos k ≡ nearest (pos n -ℤ pos (k * d)) d
-  unfolding nearest withSign
-  nearest-above n x h e =
-      let m = n - k * d in
-      let split : k * d + m ≡ n = omega arith in
-      ap (λ (q : ℕ). pos q -ℤ pos k) (up m x (rw split e))
-      ∙ more k (nearestSize m d)
-      ∙ sym (ap (λ (n : ℕ). nearest (pos n -ℤ pos (k * d)) d) (sym split) ∙ ap (λ (z : ℤ). nearest z d) (more (k * d) m))
-
-  nearest-below : (n x : ℕ) → n < k * d → x + 1 ≡ 2 * n + d → pos (x / (2 * d)) -ℤ pos k ≡ nearest (pos n -ℤ pos (k * d)) d
-  nearest-below n x h e =
-      let m = k * d - n in
-      let split : n + m ≡ k * d = omega arith in
-      let e′ : nearestSize m d ≤ k = nearestSize-most m d k some (omega arith) in
-      let r = k - nearestSize m d in
-      let rest : r + nearestSize m d ≡ k = omega arith in
-      ap (λ (q : ℕ). pos q -ℤ pos k) (down m r x (sym rest) (omega arith))
-      ∙ ap (λ (k : ℕ). pos r -ℤ pos k) (sym rest)
-      ∙ short r (nearestSize m d)
-      ∙ sym (ap (λ (b : ℕ). nearest (pos n -ℤ pos b) d) (sym split) ∙ ap (λ (z : ℤ). nearest z d) (short n m) ∙ nearest-minus m d some)
-
-  -- r is the code's half
-  module _ (n r : ℕ) (low : n < k * d → r + 1 ≡ d) (high : k * d ≤ n → r ≡ d) where
-    pub nearest-less : pos ((2 * n + r) / (2 * d)) -ℤ pos k ≡ nearest (pos n -ℤ pos (k * d)) d
-    nearest-less =
-        either-side n (k * d)
-        (λ h. let e = low h in nearest-below n (2 * n + r) h (omega arith))
-        (λ h. let e = high h in nearest-above n (2 * n + r) h (omega arith))
-
-    pub half-most : r ≤ d
-    half-most = either-side n (k * d) (λ h. let e = low h in omega arith) (λ h. let e = high h in omega arith)
-
-    pub half-of-most : n ≤ mostNumerator → d ≤ mostDivisor → (2 * n + r) / (2 * d) ≤ 8_500_000_000_000_000_000
-    half-of-most hn hd =
-        let q = (2 * n + r) / (2 * d) in
-        omega (arith, half-most, div-add-mod' (2 * n + r) (2 * d), mul-left-comm q 2 d, mul-le-mul-left q some)
 
 -- ---- reading between rows
 -- (a + b) + (c + d) = (a + c) + (b + d)

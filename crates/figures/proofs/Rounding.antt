@@ -8,10 +8,11 @@ use lib.IntN.{ℤ, pos, negsuc, negℤ, natAbs, _*ℤ_}
 use lib.Dec.{T}
 use lib.Signed.{mag, nonNeg}
 use mir.Syntax.{w64}
-use mir.Val.{toZ, ofZ}
+use mir.Val.{Fits, toZ, ofZ}
 use mir.Facts.{toZ-ofZ}
 use borrow.Author.Needs.{sfits-of}
 use Rattle.figures.specs.Nearest.{withSign, nearestSize, nearest}
+use Rattle.figures.specs.Ranges.{mostNumerator, mostDivisor}
 use Rattle.figures.proofs.Sizes.{size-withSign}
 use Rattle.figures.proofs.Holds.{Holds}
 
@@ -37,6 +38,25 @@ unfolding nearestSize
 only-nearest {n} {d} {r} h =
     let twice = mul-left-comm r 2 d in
     div-eq-of-lt-le {k = r} (2 * d) (omega (arith, h .low, twice)) (omega (arith, h .high, twice, add-mul r 1 (2 * d)))
+
+-- ---- n/d by its quotient and its rest
+module _ (n d : ℕ) (some : 0 < d) where
+  parts : n / d * d + n % d ≡ n
+  parts = div-add-mod' n d
+
+  pub quotient-nearer : 2 * (n % d) < d → n / d ≡ nearestSize n d
+  quotient-nearer below = sym (only-nearest (record { low = omega (arith, parts); high = omega (arith, parts) }))
+
+  pub next-as-near : d ≤ 2 * (n % d) → n / d + 1 ≡ nearestSize n d
+  next-as-near above =
+      let next = add-mul (n / d) 1 d in
+      sym (only-nearest (record { low = omega (arith, parts, next); high = omega (arith, parts, next, mod-lt n some) }))
+
+  pub twice-rest-fits : d ≤ mostDivisor → Fits w64 (2 * (n % d))
+  twice-rest-fits most = record { fits = omega (arith, mod-lt n some) }
+
+  pub next-fits : n ≤ mostNumerator → Fits w64 (n / d + 1)
+  next-fits most = record { fits = omega (arith, parts, mul-le-mul-left (n / d) some) }
 
 -- ---- sizes
 pub nearestSize-multiple : (k d : ℕ) → 0 < d → nearestSize (k * d) d ≡ k

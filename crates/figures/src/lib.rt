@@ -24,15 +24,26 @@ pub fn with_sign(l: i64, size: i64) -> i64
     if l < 0 { -size } else { size }
 }
 
-// The nearest whole number to n/d, a half up.
+// The nearest whole number to n/d, where n is a size; a half goes up.
+// n is the quotient times d, and the rest. If twice the rest is below d, n/d is nearer to the quotient; if it is above d, nearer to the next number. If it is d, n/d is a half, and goes up.
 pub fn nearest_size(n: u64, d: u64) -> u64
     requires { ⌜ (n ≤ mostNumerator) × (0 < d) × (d ≤ mostDivisor) ⌝ }
     ensures { λ r. ⌜ r ≡ nearestSize n d ⌝ }
 {
-    (2 * n + d) / (2 * d)
+    let quotient = n / d;
+    let rest = n % d;
+    if d <= 2 * rest {
+        quotient + 1
+    } else {
+        quotient
+    }
 }
 
-// The nearest whole number to n/d, a half away from zero.
+// The nearest whole number to n/d, a half away from zero: the size of n is rounded, and then n's sign is put to it.
+// - 5/2 has the quotient 2 and the rest 1. Twice the rest is 2, so this is a half. The answer is 3.
+// - −5/2 has the size 5/2, which gives 3. The answer is −3.
+// - −0.9875 to three places is −9,875/10 in thousandths. 9,875/10 has the quotient 987 and the rest 5. Twice the rest is 10, so this is a half. It gives 988, and the answer is −988: −0.988.
+// - −7/3 has the size 7/3, with the quotient 2 and the rest 1. Twice the rest is 2, below 3. It gives 2, and the answer is −2.
 pub fn nearest(n: i64, d: u64) -> i64
     requires { ⌜ (natAbs n ≤ mostNumerator) × (0 < d) × (d ≤ mostDivisor) ⌝ }
     ensures { λ r. ⌜ r ≡ nearest n d ⌝ }
@@ -40,29 +51,15 @@ pub fn nearest(n: i64, d: u64) -> i64
     with_sign(n, nearest_size(size(n), d) as i64)
 }
 
-// What is added to 2n before the division by 2d: d, or one less where n is below what it was raised by. The number is negative there, and its half goes down, away from zero.
-fn half(n: u64, d: u64, raised: u64) -> u64
-    requires { ⌜ 0 < d ⌝ }
-    ensures { λ r. ⌜ (n < raised → r + 1 ≡ d) × (raised ≤ n → r ≡ d) ⌝ }
-{
-    if n < raised { d - 1 } else { d }
-}
-
-// The nearest whole number to n/d less k, a half away from zero, without a size taken and a sign put back.
-fn nearest_less(n: u64, d: u64, k: u64) -> i64
-    requires { ⌜ (n ≤ mostNumerator) × (0 < d) × (d ≤ mostDivisor) × (k ≤ mostRow) × (k * d ≤ mostNumerator) ⌝ }
-    ensures { λ r. ⌜ r ≡ nearest (pos n -ℤ pos (k * d)) d ⌝ }
-{
-    ((2 * n + half(n, d, k * d)) / (2 * d)) as i64 - k as i64
-}
-
 // What a row's figure is raised by, so that it is read without a sign.
 pub const RAISED: u64 = 2_147_483_648;
 
 // The value between two rows of a step, at an offset t up to it, rounded once. u and w are the rows' figures, each raised.
+// Their weights, step − t and t, make up one step, so the sum is raised by RAISED times the step, which is taken off again.
 pub fn between(u: u64, w: u64, t: u64, step: u64) -> i64
     requires { ⌜ (u ≤ mostRow) × (w ≤ mostRow) × (t ≤ step) × (step ≤ mostStep) × (0 < step) ⌝ }
     ensures { λ r. ⌜ r ≡ between (lowered u) (lowered w) t step ⌝ }
 {
-    nearest_less(u * (step - t) + w * t, step, RAISED)
+    let sum = u * (step - t) + w * t;
+    nearest(sum as i64 - (RAISED * step) as i64, step)
 }
