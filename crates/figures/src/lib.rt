@@ -8,7 +8,7 @@ ghost use Rattle.figures.specs.Nearest.{withSign, nearestSize, nearest};
 ghost use Rattle.figures.specs.Between.{between, lowered};
 ghost use Rattle.figures.specs.Ranges.{mostH, mostV, mostA, mostB, mostC, mostP, mostM, mostD, mostS, mostQ, mostX, mostWord, mostRow, mostStep, mostGap, mostScale, mostNumerator, mostDivisor};
 
-// The size of z.
+// The size of z: z without its sign.
 pub fn size(z: i64) -> u64
     requires { ⌜ natAbs z < 2 ^ 63 ⌝ }
     ensures { λ r. ⌜ r ≡ natAbs z ⌝ }
@@ -24,8 +24,9 @@ pub fn with_sign(l: i64, size: i64) -> i64
     if l < 0 { -size } else { size }
 }
 
-// The nearest whole number to n/d, where n is a size; a half goes up.
-// n is the quotient times d, and the rest. If twice the rest is below d, n/d is nearer to the quotient; if it is above d, nearer to the next number. If it is d, n/d is a half, and goes up.
+// The whole number nearest to n/d, where n is a size; an exact half goes up.
+// n is quotient · d + rest, and the rest is below d. If twice the rest is below d, n/d is nearer to the quotient. If it is above d, n/d is nearer to the next number, quotient + 1.
+// If it is d, n/d is halfway between the two, and the next number is the answer.
 pub fn nearest_size(n: u64, d: u64) -> u64
     requires { ⌜ (n ≤ mostNumerator) × (0 < d) × (d ≤ mostDivisor) ⌝ }
     ensures { λ r. ⌜ r ≡ nearestSize n d ⌝ }
@@ -39,11 +40,12 @@ pub fn nearest_size(n: u64, d: u64) -> u64
     }
 }
 
-// The nearest whole number to n/d, a half away from zero: the size of n is rounded, and then n's sign is put to it.
-// - 5/2 has the quotient 2 and the rest 1. Twice the rest is 2, so this is a half. The answer is 3.
-// - −5/2 has the size 5/2, which gives 3. The answer is −3.
-// - −0.9875 to three places is −9,875/10 in thousandths. 9,875/10 has the quotient 987 and the rest 5. Twice the rest is 10, so this is a half. It gives 988, and the answer is −988: −0.988.
-// - −7/3 has the size 7/3, with the quotient 2 and the rest 1. Twice the rest is 2, below 3. It gives 2, and the answer is −2.
+// The whole number nearest to n/d; an exact half goes away from zero. The size of n is divided by d and rounded, and the answer has the sign of n.
+// - 7/2, three and a half: the quotient is 3 and the rest 1. Twice the rest is 2, which is d, so 7/2 is halfway. The answer is 4.
+// - −7/2: the size of −7 is 7, and 7/2 gives 4. The answer is −4.
+// - −0.9875 to three places is −987.5 thousandths, so −9,875/10. The size of −9,875 is 9,875: the quotient is 987 and the rest 5. Twice the rest is 10, which is d, so this is halfway and gives 988.
+//   The answer is −988, which is −0.988.
+// - −7/3: the size of −7 is 7: the quotient is 2 and the rest 1. Twice the rest is 2, below 3, so this gives 2. The answer is −2.
 pub fn nearest(n: i64, d: u64) -> i64
     requires { ⌜ (natAbs n ≤ mostNumerator) × (0 < d) × (d ≤ mostDivisor) ⌝ }
     ensures { λ r. ⌜ r ≡ nearest n d ⌝ }
@@ -54,8 +56,8 @@ pub fn nearest(n: i64, d: u64) -> i64
 // What a row's figure is raised by, so that it is read without a sign.
 pub const RAISED: u64 = 2_147_483_648;
 
-// The value between two rows of a step, at an offset t up to it, rounded once. u and w are the rows' figures, each raised.
-// Their weights, step − t and t, make up one step, so the sum is raised by RAISED times the step, which is taken off again.
+// The value at an offset t from one row to the next, a step apart: u at 0, w at the step. u and w are the rows' figures, each raised; the answer is not raised.
+// u and w count step − t and t times, a step in all, so the sum is too high by RAISED times the step. That is taken off before the one rounding: half way from −1 to 0 is −1/2, which goes to −1.
 pub fn between(u: u64, w: u64, t: u64, step: u64) -> i64
     requires { ⌜ (u ≤ mostRow) × (w ≤ mostRow) × (t ≤ step) × (step ≤ mostStep) × (0 < step) ⌝ }
     ensures { λ r. ⌜ r ≡ between (lowered u) (lowered w) t step ⌝ }
