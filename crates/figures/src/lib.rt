@@ -1,12 +1,10 @@
 // Exact numbers: sizes and signs, rounding, and reading between rows.
 ghost use mathlib.Core.Path.{_≡_};
-ghost use Prim.Native.Nat.{_+_, _*_, _^_, _<_, _≤_};
-ghost use lib.Dec.{T};
-ghost use lib.IntN.{pos, natAbs, _+ℤ_, _-ℤ_, _*ℤ_};
-ghost use lib.Signed.{nonNeg};
+ghost use Prim.Native.Nat.{_^_, _<_, _≤_};
+ghost use lib.IntN.{natAbs};
 ghost use Rattle.figures.specs.Nearest.{withSign, nearestSize, nearest};
 ghost use Rattle.figures.specs.Between.{between, lowered};
-ghost use Rattle.figures.specs.Ranges.{mostH, mostV, mostA, mostB, mostC, mostP, mostM, mostD, mostS, mostQ, mostX, mostWord, mostRow, mostStep, mostGap, mostScale, mostNumerator, mostDivisor};
+ghost use Rattle.figures.specs.Ranges.{mostRow, mostStep, mostNumerator, mostDivisor};
 
 // The size of z: z without its sign.
 pub fn size(z: i64) -> u64
@@ -41,11 +39,11 @@ pub fn nearest_size(n: u64, d: u64) -> u64
 }
 
 // The whole number nearest to n/d; an exact half goes away from zero. The size of n is divided by d and rounded, and the answer has the sign of n.
-// - 7/2, three and a half: the quotient is 3 and the rest 1. Twice the rest is 2, which is d, so 7/2 is halfway. The answer is 4.
+// - 7/2, three and a half, has the quotient 3 and the rest 1. Twice the rest is 2, which is d, so 7/2 is halfway. The answer is 4.
 // - −7/2: the size of −7 is 7, and 7/2 gives 4. The answer is −4.
-// - −0.9875 to three places is −987.5 thousandths, so −9,875/10. The size of −9,875 is 9,875: the quotient is 987 and the rest 5. Twice the rest is 10, which is d, so this is halfway and gives 988.
+// - −0.9875 to three places is −987.5 thousandths, so −9,875/10. 9,875/10 has the quotient 987 and the rest 5. Twice the rest is 10, which is d, so it is halfway and gives 988.
 //   The answer is −988, which is −0.988.
-// - −7/3: the size of −7 is 7: the quotient is 2 and the rest 1. Twice the rest is 2, below 3, so this gives 2. The answer is −2.
+// - −7/3: 7/3 has the quotient 2 and the rest 1. Twice the rest is 2, below 3, so 7/3 gives 2. The answer is −2.
 pub fn nearest(n: i64, d: u64) -> i64
     requires { ⌜ (natAbs n ≤ mostNumerator) × (0 < d) × (d ≤ mostDivisor) ⌝ }
     ensures { λ r. ⌜ r ≡ nearest n d ⌝ }
