@@ -1,19 +1,20 @@
 -- Figures raised by 2³¹, so that they are sizes: reading between such rows, and such a figure beside a number. Assumes nothing.
-use mathlib.Core.Path.{_≡_, sym, ap, _∙_}
+use mathlib.Core.Path.{_≡_, refl, sym, ap, _∙_}
 use Prim.Native.Nat.{ℕ, _+_, _*_, _-_, _≤_}
 use native.Mathlib.Nat.{le-trans}
 use native.Mathlib.Omega.{arith}
 use lib.Dec.{lit≤}
-use lib.IntN.{ℤ, pos, negℤ, _+ℤ_, _-ℤ_, _*ℤ_, +ℤ-assoc, +ℤ-comm, +ℤ-negℤ-cancel, -ℤ-+ℤ-cancel, negℤ-negℤ, negℤ-+ℤ}
+use lib.IntN.{ℤ, pos, negℤ, natAbs, _+ℤ_, _-ℤ_, _*ℤ_, +ℤ-assoc, +ℤ-comm, +ℤ-negℤ-cancel, -ℤ-+ℤ-cancel, negℤ-negℤ, negℤ-+ℤ}
 use lib.Signed.{leZ}
 use mir.Syntax.{w64}
-use mir.Val.{Fits}
+use mir.Val.{Fits, SFits, toZ, ofZ}
 use Rattle.figures.specs.Nearest.{nearest}
 use Rattle.figures.specs.Between.{between, lowered}
 use Rattle.figures.specs.Ranges.{mostRow, mostStep, mostNumerator}
 use Rattle.figures.proofs.Order.{leZ-shift}
 use Rattle.figures.proofs.Ring.{times-sum, sum-times, swap-last}
 use Rattle.figures.proofs.Sizes.{product-most}
+use Rattle.figures.proofs.Holds.{Holds, held-size, difference, difference-fits, rebounded, size-most}
 use Rattle.figures.proofs.Interval.{between-weighed}
 
 -- ---- reading between rows
@@ -67,6 +68,25 @@ module _ (u w t step : ℕ) (hu : u ≤ mostRow) (hw : w ≤ mostRow) (ht : t �
 
   pub weighed-fits : Fits w64 (u * (step - t) + w * t)
   weighed-fits = record { fits = omega (arith, weighed-most) }
+
+  -- the same sum as a signed number, less what it is raised by
+  weighed : Holds w64 (u * (step - t) + w * t) (pos (u * (step - t) + w * t)) 2_000_000_000_000_000_000
+  weighed = held-size w64 weighed-most tt
+
+  raise : Holds w64 (2_147_483_648 * step) (pos (2_147_483_648 * step)) (2_147_483_648 * mostStep)
+  raise = held-size w64 (omega arith) tt
+
+  pub weighed-signed : SFits w64 (pos (u * (step - t) + w * t))
+  weighed-signed = record { sfits = omega (arith, weighed-most) }
+
+  pub less-raise-fits : SFits w64 (toZ w64 (u * (step - t) + w * t) -ℤ toZ w64 (2_147_483_648 * step))
+  less-raise-fits = difference-fits weighed raise tt
+
+  pub less-raise : Holds w64 (ofZ w64 (toZ w64 (u * (step - t) + w * t) -ℤ toZ w64 (2_147_483_648 * step))) (pos (u * (step - t) + w * t) -ℤ pos (2_147_483_648 * step)) mostNumerator
+  less-raise = rebounded (difference weighed raise tt) refl (le-trans (difference weighed raise tt .size) (lit≤ tt))
+
+  pub less-raise-most : natAbs (toZ w64 (ofZ w64 (toZ w64 (u * (step - t) + w * t) -ℤ toZ w64 (2_147_483_648 * step)))) ≤ mostNumerator
+  less-raise-most = size-most less-raise tt
 
 -- ---- a figure r from its raised word, beside a number z
 raised-back : (r : ℕ) → lowered r +ℤ pos 2_147_483_648 ≡ pos r

@@ -38,7 +38,7 @@ pub fn nearest_size(n: u64, d: u64) -> u64
     }
 }
 
-// The whole number nearest to n/d; an exact half goes away from zero. The size of n is divided by d and rounded, and the answer has the sign of n.
+// The whole number nearest to n/d; an exact half goes away from zero. The size of n is divided by d and rounded, and the answer takes the sign of n; 0 has none.
 // - 7/2, three and a half, has the quotient 3 and the rest 1. Twice the rest is 2, which is d, so 7/2 is halfway. The answer is 4.
 // - −7/2: the size of −7 is 7, and 7/2 gives 4. The answer is −4.
 // - −0.9875 to three places is −987.5 thousandths, so −9,875/10. 9,875/10 has the quotient 987 and the rest 5. Twice the rest is 10, which is d, so it is halfway and gives 988.
@@ -51,11 +51,12 @@ pub fn nearest(n: i64, d: u64) -> i64
     with_sign(n, nearest_size(size(n), d) as i64)
 }
 
-// What a row's figure is raised by, so that it is read without a sign.
+// What a row's figure is raised by, so that it is read without a sign: −5 is read as 2,147,483,643.
 pub const RAISED: u64 = 2_147_483_648;
 
-// The value at an offset t from one row to the next, a step apart: u at 0, w at the step. u and w are the rows' figures, each raised; the answer is not raised.
-// u and w count step − t and t times, a step in all, so the sum is too high by RAISED times the step. That is taken off before the one rounding: half way from −1 to 0 is −1/2, which goes to −1.
+// The value on the straight line from one row to the next, a step apart, at an offset t: the first row's figure at 0, the next row's at the step.
+// u and w are the two figures, each raised; the answer is not raised. The sum takes u step − t times and w t times, which is step times in all, so it is too high by RAISED times the step.
+// That is taken off before the one rounding: half way from −1 to 0 is −1/2, which goes to −1. Rounded first, it would go to 0.
 pub fn between(u: u64, w: u64, t: u64, step: u64) -> i64
     requires { ⌜ (u ≤ mostRow) × (w ≤ mostRow) × (t ≤ step) × (step ≤ mostStep) × (0 < step) ⌝ }
     ensures { λ r. ⌜ r ≡ between (lowered u) (lowered w) t step ⌝ }
