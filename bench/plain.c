@@ -147,8 +147,38 @@ static const uint8_t *body(const uint8_t *s, const places *p, size_t kind) { ret
 // How far from row 0 the last row lies.
 static int64_t reach(const places *p, size_t kind, int64_t step) { return (p->rows[kind] - 1) * step; }
 
-// n/d to the nearest, for n not below 0.
-static int64_t nearest_size(uint64_t n, uint64_t d) { return (n + d / 2) / d; }
+#ifndef WAY
+#define WAY 1
+#endif
+#if WAY == 1
+// n/d to the nearest, for n not below 0. *half becomes true where the exact value is a half.
+static int64_t rounded_size(uint64_t n, uint64_t d, bool *half) {
+    uint64_t t = n + d / 2, q = t / d;
+    *half |= q * d == t && d % 2 == 0;
+    return q;
+}
+#elif WAY == 2
+static int64_t rounded_size(uint64_t n, uint64_t d, bool *half) {
+    uint64_t q = n / d, twice = 2 * (n - q * d);
+    *half |= twice == d;
+    return q + (twice >= d);
+}
+#else
+static int64_t rounded_size(uint64_t n, uint64_t d, bool *half) {
+    *half |= 2 * (n % d) == d;
+    return (n + d / 2) / d;
+}
+#endif
+
+// The same for any n, a half away from zero.
+#if WAY == 3
+static int64_t rounded(int64_t n, int64_t d, bool *half) { int64_t r = n % d; *half |= 2 * (r < 0 ? -r : r) == d; return (n + (n < 0 ? -d / 2 : d / 2)) / d; }
+#else
+static int64_t rounded(int64_t n, int64_t d, bool *half) {
+    int64_t size = rounded_size(n < 0 ? -n : n, d, half);
+    return n < 0 ? -size : size;
+}
+#endif
 
 // Two rows next to each other, and how far beyond the first an offset lies. The last row is the second of its two, a whole step beyond the first.
 typedef struct {
@@ -164,37 +194,40 @@ static pair pair_at(const uint8_t *s, const places *p, size_t kind, uint32_t off
 }
 
 // A column's value there; width is the words in a row.
-static int64_t between(pair r, size_t width, size_t column, int64_t step) {
+static int64_t between(pair r, size_t width, size_t column, int64_t step, bool *half) {
     int64_t u = word(r.row, column), w = word(r.row, width + column);
-    return nearest(u * step + (w - u) * r.t, step);
+    return rounded(u * step + (w - u) * r.t, step, half);
 }
 
 // The same for a column that is never below 0.
-static int64_t size_between(pair r, size_t width, size_t column, int64_t step) {
+static int64_t size_between(pair r, size_t width, size_t column, int64_t step, bool *half) {
     int64_t u = word(r.row, column), w = word(r.row, width + column);
-    return nearest_size(u * step + (w - u) * r.t, step);
+    return rounded_size(u * step + (w - u) * r.t, step, half);
 }
 
 plane plain_forward(const uint8_t *s, const places *p, int32_t latitude, int32_t longitude) {
+    bool half = false;
     int64_t north = latitude - (int64_t)MINUTE * word(body(s, p, 2), 0);
-    if (!within(0, north, reach(p, 2, MINUTE))) return (plane){10, 0, 0};
+    if (!within(0, north, reach(p, 2, MINUTE))) return (plane){10, 0, 0, false};
     int64_t l = word(body(s, p, 1), 0) - (int64_t)longitude, size = l < 0 ? -l : l;
-    if (!within(0, longitude, 648000000) || size > reach(p, 3, LONGITUDE)) return (plane){11, 0, 0};
+    if (!within(0, longitude, 648000000) || size > reach(p, 3, LONGITUDE)) return (plane){11, 0, 0, false};
     pair r = pair_at(s, p, 2, north, MINUTE), e = pair_at(s, p, 3, size, LONGITUDE);
-    int64_t y0 = size_between(r, 8, 1, MINUTE), h = size_between(r, 8, 3, MINUTE), v = size_between(r, 8, 5, MINUTE), a = between(r, 8, 7, MINUTE);
-    int64_t b = between(e, 2, 0, LONGITUDE), c = between(e, 2, 1, LONGITUDE);
-    int64_t q = nearest_size(size * size, 10000000);
-    int64_t x = nearest_size(h * size + 1000 * a * b, 10000000);
-    int64_t rise = nearest(v * q + 1000000 * c, 10000000);
-    return (plane){0, word(body(s, p, 1), 1) + (l < 0 ? -x : x), y0 + rise};
+    int64_t y0 = size_between(r, 8, 1, MINUTE, &half), h = size_between(r, 8, 3, MINUTE, &half), v = size_between(r, 8, 5, MINUTE, &half), a = between(r, 8, 7, MINUTE, &half);
+    int64_t b = between(e, 2, 0, LONGITUDE, &half), c = between(e, 2, 1, LONGITUDE, &half);
+    int64_t q = rounded_size(size * size, 10000000, &half);
+    int64_t x = rounded_size(h * size + 1000 * a * b, 10000000, &half);
+    int64_t rise = rounded(v * q + 1000000 * c, 10000000, &half);
+    return (plane){0, word(body(s, p, 1), 1) + (l < 0 ? -x : x), y0 + rise, half};
 }
 
 // P(x'/10,000)² + d to the nearest hundredth. It is n/10¹⁵ with n past 64 bits; 10¹⁵ is 2¹⁵·5¹⁵, so that a shift comes first and 64 bits are enough.
-static int64_t reduction(int64_t p, int64_t size, int64_t d) {
-    const int64_t ONE = 1000000000000000;
+static int64_t reduction(int64_t p, int64_t size, int64_t d, bool *half) {
+    const int64_t ONE = 1000000000000000, FIVES = 30517578125;
     __int128 n = (__int128)(size * size) * p + (__int128)d * ONE;
-    if (n < 0) return -nearest_size(-n, ONE);
-    return (uint64_t)((n + ONE / 2) >> 15) / 30517578125;
+    if (n < 0) return -rounded_size(-n, ONE, half);
+    uint64_t low = (uint64_t)n + ONE / 2, t = (n + ONE / 2) >> 15, q = t / FIVES;
+    *half |= q * FIVES == t && low % 32768 == 0;
+    return q;
 }
 
 // The last row with y0 not above the reduced northing, the last row of all left out. From row to row y0 rises by 600,000 to 615,000.
@@ -211,34 +244,37 @@ static size_t row_of(const uint8_t *b, size_t rows, int32_t reduced) {
 }
 
 geographic plain_inverse(const uint8_t *s, const places *p, int32_t x, int32_t y) {
+    bool half = false;
     int64_t x1 = x - (int64_t)word(body(s, p, 1), 1), size = x1 < 0 ? -x1 : x1;
-    if (size > reach(p, 5, EASTING)) return (geographic){12, 0, 0};
-    if (!within(0, y, reach(p, 4, NORTHING))) return (geographic){13, 0, 0};
-    int64_t d = between(pair_at(s, p, 5, size, EASTING), 1, 0, EASTING);
-    int64_t reduced = y - reduction(size_between(pair_at(s, p, 4, y, NORTHING), 2, 0, NORTHING), size, d);
+    if (size > reach(p, 5, EASTING)) return (geographic){12, 0, 0, false};
+    if (!within(0, y, reach(p, 4, NORTHING))) return (geographic){13, 0, 0, false};
+    int64_t d = between(pair_at(s, p, 5, size, EASTING), 1, 0, EASTING, &half);
+    int64_t reduced = y - reduction(size_between(pair_at(s, p, 4, y, NORTHING), 2, 0, NORTHING, &half), size, d, &half);
     const uint8_t *b2 = body(s, p, 2);
     size_t rows = p->rows[2];
-    if (!within(word(b2, 1), reduced, word(b2, 8 * (rows - 1) + 1))) return (geographic){14, 0, 0};
+    if (!within(word(b2, 1), reduced, word(b2, 8 * (rows - 1) + 1))) return (geographic){14, 0, 0, false};
     pair r = {b2 + 32 * row_of(b2, rows, reduced), 0};
     int64_t y0 = word(r.row, 1);
     // 60.000 seconds, or the last row, is the second of the two rows: a whole step.
-    r.t = nearest_size(MINUTE * (reduced - y0), word(r.row, 9) - y0);
-    int64_t h = size_between(r, 8, 3, MINUTE), a = between(r, 8, 7, MINUTE);
-    int64_t near = nearest_size(10000 * size, h);
-    if (near > reach(p, 3, LONGITUDE_SECONDS)) return (geographic){11, 0, 0};
-    int64_t b = between(pair_at(s, p, 3, near, LONGITUDE_SECONDS), 2, 0, LONGITUDE_SECONDS);
-    int64_t l = nearest_size(1000 * (10000 * size - a * b), h);
-    if (l > reach(p, 3, LONGITUDE)) return (geographic){11, 0, 0};
-    return (geographic){0, MINUTE * word(r.row, 0) + r.t, word(body(s, p, 1), 0) - (x1 < 0 ? -l : l)};
+    r.t = rounded_size(MINUTE * (reduced - y0), word(r.row, 9) - y0, &half);
+    int64_t h = size_between(r, 8, 3, MINUTE, &half), a = between(r, 8, 7, MINUTE, &half);
+    int64_t near = rounded_size(10000 * size, h, &half);
+    if (near > reach(p, 3, LONGITUDE_SECONDS)) return (geographic){11, 0, 0, false};
+    int64_t b = between(pair_at(s, p, 3, near, LONGITUDE_SECONDS), 2, 0, LONGITUDE_SECONDS, &half);
+    int64_t l = rounded_size(1000 * (10000 * size - a * b), h, &half);
+    if (l > reach(p, 3, LONGITUDE)) return (geographic){11, 0, 0, false};
+    return (geographic){0, MINUTE * word(r.row, 0) + r.t, word(body(s, p, 1), 0) - (x1 < 0 ? -l : l), half};
 }
 
 grid plain_convergence(const uint8_t *s, const places *p, int32_t x, int32_t y) {
+    bool half = false;
     int64_t x1 = x - (int64_t)word(body(s, p, 1), 1), size = x1 < 0 ? -x1 : x1;
-    if (size > reach(p, 6, SCALE)) return (grid){12, 0, 0};
-    if (!within(0, y, reach(p, 4, NORTHING))) return (grid){13, 0, 0};
-    int64_t m = size_between(pair_at(s, p, 4, y, NORTHING), 2, 1, NORTHING);
-    int64_t turn = nearest_size(m * size, 100000000);
-    return (grid){0, x1 < 0 ? -turn : turn, size_between(pair_at(s, p, 6, size, SCALE), 1, 0, SCALE)};
+    if (size > reach(p, 6, SCALE)) return (grid){12, 0, 0, false};
+    if (!within(0, y, reach(p, 4, NORTHING))) return (grid){13, 0, 0, false};
+    int64_t m = size_between(pair_at(s, p, 4, y, NORTHING), 2, 1, NORTHING, &half);
+    int64_t turn = rounded_size(m * size, 100000000, &half);
+    int64_t k = size_between(pair_at(s, p, 6, size, SCALE), 1, 0, SCALE, &half);
+    return (grid){0, x1 < 0 ? -turn : turn, k, half};
 }
 
 // Over many points. The loops hold their conversion inlined, as the library's do.
@@ -246,15 +282,15 @@ static int32_t greater(int32_t a, int32_t b) { return a < b ? b : a; }
 
 #define OVER(name, answer, one, two)                                                                                                                     \
     __attribute__((flatten)) static greatest over_##name(const uint8_t *sheet, const places *p, const int32_t *points, size_t numbers) {                 \
-        greatest g = {0, 0};                                                                                                                             \
+        greatest g = {0, 0, false};                                                                                                                      \
         for (size_t i = 0; i < numbers / 2; i++) {                                                                                                       \
             answer r = plain_##name(sheet, p, points[2 * i], points[2 * i + 1]);                                                                         \
-            g.first = greater(g.first, r.one), g.second = greater(g.second, r.two);                                                                      \
+            g.first = greater(g.first, r.one), g.second = greater(g.second, r.two), g.odd ^= r.half;                                                     \
         }                                                                                                                                                \
         return g;                                                                                                                                        \
     }                                                                                                                                                    \
     greatest plain_##name##_all(const uint8_t *sheet, size_t length, const int32_t *points, size_t numbers) {                                            \
-        if (plain_check(sheet, length).number) return (greatest){0, 0};                                                                                  \
+        if (plain_check(sheet, length).number) return (greatest){0, 0, false};                                                                           \
         places p = plain_places(sheet);                                                                                                                  \
         return over_##name(sheet, &p, points, numbers);                                                                                                  \
     }

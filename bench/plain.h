@@ -1,4 +1,5 @@
 // The same rules in plain C. Latitude and west longitude are in 0.001″, x and y in 0.01 ft, the convergence in 0.1″ and the scale in 10⁻⁷.
+#include <stdbool.h>
 #include <stddef.h>
 #include <stdint.h>
 
@@ -17,19 +18,23 @@ typedef struct {
     uint32_t start[7], rows[7];
 } places;
 
+// A conversion's answer. half: some rounding on the way to it had an exact value halfway between two whole numbers.
 typedef struct {
     uint32_t number;
     int32_t x, y;
+    bool half;
 } plane;
 
 typedef struct {
     uint32_t number;
     int32_t latitude, longitude;
+    bool half;
 } geographic;
 
 typedef struct {
     uint32_t number;
     int32_t convergence, scale;
+    bool half;
 } grid;
 
 places plain_places(const uint8_t *sheet);
@@ -37,9 +42,10 @@ plane plain_forward(const uint8_t *sheet, const places *p, int32_t latitude, int
 geographic plain_inverse(const uint8_t *sheet, const places *p, int32_t x, int32_t y);
 grid plain_convergence(const uint8_t *sheet, const places *p, int32_t x, int32_t y);
 
-// The greatest of each value over many points, which are pairs of numbers, on one sheet, which is checked once. Zeros where it fails.
+// The greatest of each value over many points, which are pairs of numbers, on one sheet, which is checked once, and whether an odd number of them met a half. Zeros where it fails.
 typedef struct {
     int32_t first, second;
+    bool odd;
 } greatest;
 
 greatest plain_forward_all(const uint8_t *sheet, size_t length, const int32_t *points, size_t numbers);

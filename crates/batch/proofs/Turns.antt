@@ -14,7 +14,7 @@ use Rattle.words.specs.Ladder.{need}
 use Rattle.words.proofs.Refusals.{stop, go, is, is-not, refused, passed-on}
 use Rattle.bodies.specs.Check.{checkOf}
 use Rattle.extent.specs.Extent.{latitudeKnown, longitudeKnown}
-use Rattle.forward.specs.Forward.{noPlane, planeAt, forwardOf}
+use Rattle.forward.specs.Forward.{noPlane, planeAt, planeFrom, forwardOf}
 use Rattle.batch.specs.Batch.{oneIfAnswered, pairs, pointAt, wordsOf, words, answered, afterPairs, taken, batched, batchOf, answersOf}
 
 -- ---- vs stored behind t, where the old list's tail begins
@@ -43,7 +43,7 @@ module _ (s : List ℕ) (points : List ℤ) where
 
 -- ---- a conversion's own number is a small one
 pub number-small : (s : List ℕ) (a b : ℤ) → forwardOf s a b .number < 2_147_483_648
-unfolding forwardOf need planeAt
+unfolding forwardOf need planeAt planeFrom
 number-small s a b = go (latitudeKnown s a) (longitudeKnown s b)
   where
     go : (p q : Bool) → need p (noPlane 10) (need q (noPlane 11) (planeAt s a b)) .number < 2_147_483_648

@@ -11,7 +11,12 @@ pub fn geographic_to_plane(sheet: &[u8], latitude: i32, longitude: i32) -> Plane
 {
     let number = bodies::check(sheet).number;
     if number != 0 {
-        return Plane { number, x: 0, y: 0 };
+        return Plane {
+            number,
+            x: 0,
+            y: 0,
+            half: false,
+        };
     }
     forward::forward(sheet, entries::places_of(sheet), latitude, longitude)
 }
@@ -26,6 +31,7 @@ pub fn plane_to_geographic(sheet: &[u8], x: i32, y: i32) -> Geographic
             number,
             latitude: 0,
             longitude: 0,
+            half: false,
         };
     }
     inverse::inverse(sheet, entries::places_of(sheet), x, y)
@@ -41,6 +47,7 @@ pub fn convergence_and_scale(sheet: &[u8], x: i32, y: i32) -> Grid
             number,
             convergence: 0,
             scale: 0,
+            half: false,
         };
     }
     grid::convergence(sheet, entries::places_of(sheet), x, y)

@@ -1,6 +1,6 @@
 -- Two sheets that differ in no latitude row's figures answer every point alike. Assumes nothing.
 use mathlib.Core.Path.{_≡_, ap}
-use mathlib.Core.Bool.{Bool, true}
+use mathlib.Core.Bool.{Bool, true, _||_}
 use mathlib.Core.List.{List}
 use mathlib.Core.Logic.{_⊎_, inl, inr}
 use Prim.Native.Nat.{ℕ, _+_, _-_}
@@ -13,9 +13,9 @@ use Rattle.row_search.proofs.SameRow.{same-row}
 use Rattle.tables.specs.Figures.{y0Of}
 use Rattle.extent.specs.Extent.{fromFirst, xPrime, eastingKnown, northingKnown, reducedKnown}
 use Rattle.forward.specs.Forward.{forwardOf}
-use Rattle.inverse.specs.Inverse.{reducedNorthing, rowOf, secondsPast, distanceOf, fromReduced, inverseOf}
+use Rattle.inverse.specs.Inverse.{reducedNorthing, reducedHalf, rowOf, secondsPast, secondsPastHalf, distanceOf, distanceHalf, fromReduced, inverseOf}
 use Rattle.corrected.proofs.Beside.{Beside, Outside, latitude-rows, x-prime-same, easting-same, northing-same, y0-row-same}
-use Rattle.corrected.proofs.SameAnswers.{same-rung, forward-same, from-distance-same, reduced-same}
+use Rattle.corrected.proofs.SameAnswers.{same-rung, forward-same, from-distance-same, reduced-same, reduced-half-same}
 
 module _ (s t : List ℕ) (same : (r : ℕ) → Beside s t r) where
   -- every distance lies outside the intervals beside some row that is far enough
@@ -47,11 +47,16 @@ module _ (s t : List ℕ) (same : (r : ℕ) → Beside s t r) where
   unfolding distanceOf
   distance-all z = rw (row-all z, seconds-all z (rowOf s z))
 
-  from-reduced-all : (xp z : ℤ) → fromReduced t xp z ≡ fromReduced s xp z
+  distance-half-all : (z : ℤ) → distanceHalf t z ≡ distanceHalf s z
+  unfolding distanceHalf secondsPastHalf
+  distance-half-all z = rw (row-all z, rows-all, y0-all (rowOf s z), y0-all (rowOf s z + 1))
+
+  from-reduced-all : (xp z : ℤ) (met : Bool) → fromReduced t xp z met ≡ fromReduced s xp z met
   unfolding fromReduced
-  from-reduced-all xp z =
+  from-reduced-all xp z met =
       let d = distanceOf s z in
-      rw (known-all z, distance-all z) (same-rung (reducedKnown s z) _ _ _ (λ k. from-distance-same s t (d + 2) (same (d + 2)) d (below-far d) xp))
+      rw (known-all z, distance-all z, distance-half-all z)
+      (same-rung (reducedKnown s z) _ _ _ (λ k. from-distance-same s t (d + 2) (same (d + 2)) d (below-far d) xp (met || distanceHalf s z)))
 
   pub inverse-all : (x y : ℤ) → inverseOf t x y ≡ inverseOf s x y
   unfolding inverseOf
@@ -61,5 +66,6 @@ module _ (s t : List ℕ) (same : (r : ℕ) → Beside s t r) where
         easting-same s t 0 (same 0) (xPrime s x),
         northing-same s t 0 (same 0) y,
         reduced-same s t 0 (same 0) (natAbs (xPrime s x)) y,
-        from-reduced-all (xPrime s x) (reducedNorthing s (natAbs (xPrime s x)) y),
+        reduced-half-same s t 0 (same 0) (natAbs (xPrime s x)) y,
+        from-reduced-all (xPrime s x) (reducedNorthing s (natAbs (xPrime s x)) y) (reducedHalf s (natAbs (xPrime s x)) y),
       )

@@ -8,9 +8,9 @@ use lib.Dec.{lit<, lit≤}
 use lib.IntN.{ℤ, pos, natAbs, _-ℤ_, _*ℤ_}
 use Rattle.entries.specs.Layout.{lastKind, zone, latitude, longitude, northing, easting, scale, widthOf, stepOf}
 use Rattle.entries.specs.Entries.{rowsOf, bodyOf}
-use Rattle.reading.specs.Tables.{column, valueAt, withinRows}
-use Rattle.reading.proofs.Local.{value-below, value-above}
-use Rattle.tables.specs.Figures.{figureOf, figureAt, centralMeridian, falseEasting, firstLatitude, y0Of, y0At, hAt, vAt, aAt, bAt, cAt, pAt, mAt, dAt, kAt}
+use Rattle.reading.specs.Tables.{column, valueAt, valueHalf, withinRows}
+use Rattle.reading.proofs.Local.{value-below, value-above, half-below, half-above}
+use Rattle.tables.specs.Figures.{figureOf, figureAt, centralMeridian, falseEasting, firstLatitude, y0Of, figureHalf, y0At, y0Half, hAt, hHalf, vAt, vHalf, aAt, aHalf, bAt, bHalf, cAt, cHalf, pAt, pHalf, mAt, mHalf, dAt, dHalf, kAt, kHalf}
 use Rattle.extent.specs.Extent.{fromFirst, latitudeKnown, lOf, sizeKnown, longitudeKnown, xPrime, eastingKnown, scaleKnown, northingKnown}
 
 pub record Beside (s t : List ℕ) (r : ℕ) : Type 0 where
@@ -34,6 +34,9 @@ module _ (s t : List ℕ) (r : ℕ) (same : Beside s t r) where
 
     read-same : (number offset : ℕ) → figureAt t kind number offset ≡ figureAt s kind number offset
     read-same number offset = ap (λ (b : List ℕ). valueAt (column b (widthOf kind) number) (stepOf kind) offset) (same .bodies kind l h other)
+
+    half-same : (number offset : ℕ) → figureHalf t kind number offset ≡ figureHalf s kind number offset
+    half-same number offset = ap (λ (b : List ℕ). valueHalf (column b (widthOf kind) number) (stepOf kind) offset) (same .bodies kind l h other)
 
     within-same : (x : ℤ) → withinRows (rowsOf t kind) (stepOf kind) x ≡ withinRows (rowsOf s kind) (stepOf kind) x
     within-same x = ap (λ (n : ℕ). withinRows n (stepOf kind) x) (same .rows kind l h)
@@ -72,6 +75,31 @@ module _ (s t : List ℕ) (r : ℕ) (same : Beside s t r) where
   pub k-same : (size : ℕ) → kAt t size ≡ kAt s size
   unfolding kAt
   k-same size = read-same scale (lit≤ tt) (lit≤ tt) (λ e. omega arith) 0 size
+
+  -- ---- and their halves
+  pub b-half-same : (size : ℕ) → bHalf t size ≡ bHalf s size
+  unfolding bHalf
+  b-half-same size = half-same longitude (lit≤ tt) (lit≤ tt) (λ e. omega arith) 0 size
+
+  pub c-half-same : (size : ℕ) → cHalf t size ≡ cHalf s size
+  unfolding cHalf
+  c-half-same size = half-same longitude (lit≤ tt) (lit≤ tt) (λ e. omega arith) 1 size
+
+  pub p-half-same : (y : ℕ) → pHalf t y ≡ pHalf s y
+  unfolding pHalf
+  p-half-same y = half-same northing (lit≤ tt) (lit≤ tt) (λ e. omega arith) 0 y
+
+  pub m-half-same : (y : ℕ) → mHalf t y ≡ mHalf s y
+  unfolding mHalf
+  m-half-same y = half-same northing (lit≤ tt) (lit≤ tt) (λ e. omega arith) 1 y
+
+  pub d-half-same : (size : ℕ) → dHalf t size ≡ dHalf s size
+  unfolding dHalf
+  d-half-same size = half-same easting (lit≤ tt) (lit≤ tt) (λ e. omega arith) 0 size
+
+  pub k-half-same : (size : ℕ) → kHalf t size ≡ kHalf s size
+  unfolding kHalf
+  k-half-same size = half-same scale (lit≤ tt) (lit≤ tt) (λ e. omega arith) 0 size
 
   -- ---- where a point stands
   pub first-same : firstLatitude t ≡ firstLatitude s
@@ -142,3 +170,26 @@ module _ (s t : List ℕ) (r : ℕ) (same : Beside s t r) where
     pub a-same : aAt t d ≡ aAt s d
     unfolding aAt
     a-same = column-same (figureOf s latitude 7) (figureOf t latitude 7) (same .a)
+
+    mark-same : (f g : ℕ → ℤ) → ((i : ℕ) → (i ≡ r → ⊥) → g i ≡ f i) → valueHalf g (stepOf latitude) d ≡ valueHalf f (stepOf latitude) d
+    mark-same f g rows = pick outside
+      where
+        pick : Outside r d → valueHalf g (stepOf latitude) d ≡ valueHalf f (stepOf latitude) d
+        pick (inl low) = half-below f g (stepOf latitude) r (lit< tt) rows d (low .0) (low .1)
+        pick (inr high) = half-above f g (stepOf latitude) r (lit< tt) rows d high
+
+    pub y0-half-same : y0Half t d ≡ y0Half s d
+    unfolding y0Half
+    y0-half-same = mark-same (figureOf s latitude 1) (figureOf t latitude 1) (same .y0)
+
+    pub h-half-same : hHalf t d ≡ hHalf s d
+    unfolding hHalf
+    h-half-same = mark-same (figureOf s latitude 3) (figureOf t latitude 3) (same .h)
+
+    pub v-half-same : vHalf t d ≡ vHalf s d
+    unfolding vHalf
+    v-half-same = mark-same (figureOf s latitude 5) (figureOf t latitude 5) (same .v)
+
+    pub a-half-same : aHalf t d ≡ aHalf s d
+    unfolding aHalf
+    a-half-same = mark-same (figureOf s latitude 7) (figureOf t latitude 7) (same .a)

@@ -8,7 +8,7 @@ use lib.Dec.{eqb}
 use lib.IntN.{ℤ, pos}
 use Rattle.words.specs.Ladder.{need, orElse}
 use Rattle.extent.specs.Extent.{xPrime}
-use Rattle.forward.specs.Forward.{forwardOf, planeAt}
+use Rattle.forward.specs.Forward.{forwardOf, planeAt, planeFrom}
 use Rattle.inverse.specs.Inverse.{inverseOf, fromReduced, fromDistance, geographicAt}
 use Rattle.grid.specs.Grid.{gridOf, gridAt}
 use Rattle.convert.specs.Conversions.{geographicToPlane, planeToGeographic, convergenceAndScale}
@@ -54,7 +54,7 @@ distance-zeros s xp t = of-need _ (carried refl refl) (of-need _ (carried refl r
 -- each conversion
 module _ (s : List ℕ) (a b : ℤ) where
   plane-zeros : Zeroed (λ r. r .number) (λ r. r .x) (λ r. r .y) (geographicToPlane s a b)
-  unfolding geographicToPlane forwardOf planeAt
+  unfolding geographicToPlane forwardOf planeAt planeFrom
   plane-zeros = of-or-else (carried refl refl) (of-need _ (carried refl refl) (of-need _ (carried refl refl) (accepted refl)))
 
   geographic-zeros : Zeroed (λ r. r .number) (λ r. r .latitude) (λ r. r .longitude) (planeToGeographic s a b)

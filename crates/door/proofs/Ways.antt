@@ -1,4 +1,5 @@
 -- The door's ways out: a pair by its two floats, an answer by its number, and 15 by the pair. Assumes nothing.
+use mathlib.Core.Bool.{Bool}
 use mathlib.Core.Path.{_≡_, refl, ap, _∙_}
 use Prim.Native.Nat.{ℕ}
 use lib.IntN.{ℤ}
@@ -29,13 +30,13 @@ unfolding both
 both-counts v w a b e f = rw (e, f)
 
 -- ---- an answer
-pub refuses : (number : ℕ) (a b : ℤ) → (number ≡ 0 → ⊥) → Refused number ≡ answerOf number a b
+pub refuses : (number : ℕ) (a b : ℤ) (half : Bool) → (number ≡ 0 → ⊥) → Refused number ≡ answerOf number a b half
 unfolding answerOf need
-refuses number a b h = rw (ne-eqb number 0 h)
+refuses number a b half h = rw (ne-eqb number 0 h)
 
-pub answers : (number : ℕ) (a b : ℤ) → number ≡ 0 → Counts (float a) (float b) ≡ answerOf number a b
+pub answers : (number : ℕ) (a b : ℤ) (half : Bool) → number ≡ 0 → Counts (float a) (float b) half ≡ answerOf number a b half
 unfolding answerOf need
-answers number a b e = rw (eq-eqb number 0 e)
+answers number a b half e = rw (eq-eqb number 0 e)
 
 -- ---- the door, before the sheet and after
 pub before : (p : Pair) (convert : ℤ → ℤ → Answer) → p ≡ Pair.No → Refused 15 ≡ doorOf p convert

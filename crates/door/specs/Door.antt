@@ -1,5 +1,6 @@
 -- "Tools' door." What the door answers to a point, by the definitions of the conversions in `convert`.
 -- s is the sheet, p the point.
+use mathlib.Core.Bool.{Bool, false}
 use mathlib.Core.List.{List}
 use Prim.Native.Nat.{ℕ}
 use lib.Dec.{eqb}
@@ -29,21 +30,26 @@ abbrev pub countsOf : Point → Pair
 countsOf p = both (wholeOf (p .first)) (wholeOf (p .second))
 
 -- "and get two f64 counts or a refusal number": a conversion's number and its two values, as the tools get them.
-unfoldable pub answerOf : ℕ → ℤ → ℤ → Answer
-answerOf number a b = need (eqb number 0) (Refused number) (Counts (float a) (float b))
+unfoldable pub answerOf : ℕ → ℤ → ℤ → Bool → Answer
+answerOf number a b half = need (eqb number 0) (Refused number) (Counts (float a) (float b) half)
 
 -- "Where an answer is an enum, a definition gives this paper's number and values for each of its cases": counts are "0 accepted", and "A refused conversion carries zeros."
 abbrev pub numberOf : Answer → ℕ
-numberOf (Counts a b) = 0
+numberOf (Counts a b h) = 0
 numberOf (Refused n) = n
 
 abbrev pub firstOf : Answer → Float
-firstOf (Counts a b) = a
+firstOf (Counts a b h) = a
 firstOf (Refused n) = float (pos 0)
 
 abbrev pub secondOf : Answer → Float
-secondOf (Counts a b) = b
+secondOf (Counts a b h) = b
 secondOf (Refused n) = float (pos 0)
+
+-- "some rounding in it met a half (no in a refusal)"
+abbrev pub halfOf : Answer → Bool
+halfOf (Counts a b h) = h
+halfOf (Refused n) = false
 
 -- "15 is answered before the sheet is looked at": `convert` is what looks at it, and is asked only where both floats are counts.
 unfoldable pub doorOf : Pair → (ℤ → ℤ → Answer) → Answer
@@ -52,13 +58,13 @@ doorOf (Pair.Of a b) convert = convert a b
 
 -- Each conversion's answer, as the tools get it.
 abbrev pub planeAnswer : Plane → Answer
-planeAnswer r = answerOf (r .number) (r .x) (r .y)
+planeAnswer r = answerOf (r .number) (r .x) (r .y) (r .half)
 
 abbrev pub geographicAnswer : Geographic → Answer
-geographicAnswer r = answerOf (r .number) (r .latitude) (r .longitude)
+geographicAnswer r = answerOf (r .number) (r .latitude) (r .longitude) (r .half)
 
 abbrev pub gridAnswer : Grid → Answer
-gridAnswer r = answerOf (r .number) (r .convergence) (r .scale)
+gridAnswer r = answerOf (r .number) (r .convergence) (r .scale) (r .half)
 
 -- "Geographic to plane" through the door: latitude and west longitude in 0.001″ to x and y in 0.01 ft.
 abbrev pub toPlane : List ℕ → Point → Answer

@@ -12,7 +12,7 @@ pub struct Point {
 
 // What the tools get: two counts, in the order and the units that the function names, or a refusal number. A count of zero is +0.
 pub enum Answer {
-    Counts(f64, f64),
+    Counts(f64, f64, bool),
     Refused(u32),
 }
 
@@ -36,13 +36,13 @@ fn counts_of(p: Point) -> Pair
 }
 
 // A conversion's number and two values, as the tools get them: the number where it is not 0, else the values as floats.
-fn answer_of(number: u32, a: i32, b: i32) -> Answer
-    ensures { λ r. ⌜ r ≡ answerOf number a b ⌝ }
+fn answer_of(number: u32, a: i32, b: i32, half: bool) -> Answer
+    ensures { λ r. ⌜ r ≡ answerOf number a b half ⌝ }
 {
     if number != 0 {
         return Answer::Refused(number);
     }
-    Answer::Counts(a as f64, b as f64)
+    Answer::Counts(a as f64, b as f64, half)
 }
 
 // Geographic to plane: of latitude and west longitude in 0.001″, x and y in 0.01 ft.
@@ -54,7 +54,7 @@ pub fn geographic_to_plane(sheet: &[u8], p: Point) -> Answer
         return Answer::Refused(15);
     };
     let r = convert::geographic_to_plane(sheet, latitude, longitude);
-    answer_of(r.number, r.x, r.y)
+    answer_of(r.number, r.x, r.y, r.half)
 }
 
 // Plane to geographic: of x and y in 0.01 ft, latitude and west longitude in 0.001″.
@@ -66,7 +66,7 @@ pub fn plane_to_geographic(sheet: &[u8], p: Point) -> Answer
         return Answer::Refused(15);
     };
     let r = convert::plane_to_geographic(sheet, x, y);
-    answer_of(r.number, r.latitude, r.longitude)
+    answer_of(r.number, r.latitude, r.longitude, r.half)
 }
 
 // Convergence and scale: of x and y in 0.01 ft, Δα in 0.1″ and k in 10⁻⁷.
@@ -78,7 +78,7 @@ pub fn convergence_and_scale(sheet: &[u8], p: Point) -> Answer
         return Answer::Refused(15);
     };
     let r = convert::convergence_and_scale(sheet, x, y);
-    answer_of(r.number, r.convergence, r.scale)
+    answer_of(r.number, r.convergence, r.scale, r.half)
 }
 
 // A count of 0.01 ft in feet, for any count: one f64 division by 100, rounded once. An f64 holds each count as it is.

@@ -1,22 +1,28 @@
--- Laws of reading between rows: at a row it is the row, and elsewhere it lies between the two rows, whatever the step. Assumes nothing.
+-- Laws of reading between rows: at a row it is the row and no half, and elsewhere it lies between the two rows, whatever the step. Assumes nothing.
 use mathlib.Core.Path.{_≡_, sym, ap, _∙_}
+use mathlib.Core.Bool.{false}
 use Prim.Native.Nat.{ℕ, _+_, _*_, _-_, _<_, _≤_}
 use native.Mathlib.Nat.{mul-add, mul-le-mul-right, le-refl, le-trans}
 use native.Mathlib.Omega.{arith}
 use lib.IntN.{ℤ, pos, natAbs, _+ℤ_, _-ℤ_, _*ℤ_, +ℤ-assoc, +ℤ-comm, +ℤ-idl, +ℤ-idr, *ℤ-zero, -ℤ-+ℤ-cancel}
-use Rattle.figures.specs.Nearest.{withSign, nearestSize, nearest}
-use Rattle.figures.specs.Between.{between}
+use Rattle.figures.specs.Nearest.{withSign, nearestSize, nearest, onHalfSize, onHalf}
+use Rattle.figures.specs.Between.{exactBetween, between, betweenHalf}
 use Rattle.figures.proofs.Ring.{difference-times, times-sum}
 use Rattle.figures.proofs.Sizes.{size-sum, size-product}
+use Rattle.figures.proofs.Halves.{whole-no-half}
 use Rattle.figures.proofs.Rounding.{nearestSize-rises, nearestSize-most, nearestSize-least, size-nearest, nearest-multiple}
 
 -- at a row the next one does not count
+pub exact-row : (u w : ℤ) (step : ℕ) → exactBetween u w 0 step ≡ u *ℤ pos step
+exact-row u w step = ap (λ (z : ℤ). u *ℤ pos step +ℤ z) (*ℤ-zero (w -ℤ u)) ∙ +ℤ-idr (u *ℤ pos step)
+
 pub at-row : (u w : ℤ) (step : ℕ) → 0 < step → between u w 0 step ≡ u
 unfolding between
-at-row u w step h =
-    ap (λ (z : ℤ). nearest (u *ℤ pos step +ℤ z) step) (*ℤ-zero (w -ℤ u))
-    ∙ ap (λ (z : ℤ). nearest z step) (+ℤ-idr (u *ℤ pos step))
-    ∙ nearest-multiple u step h
+at-row u w step h = ap (λ (z : ℤ). nearest z step) (exact-row u w step) ∙ nearest-multiple u step h
+
+pub no-half-at-row : (u w : ℤ) (step : ℕ) → 0 < step → betweenHalf u w 0 step ≡ false
+unfolding betweenHalf
+no-half-at-row u w step h = ap (λ (z : ℤ). onHalf z step) (exact-row u w step) ∙ whole-no-half u step h
 
 -- (a + b) + (c − b) = a + c
 cancelled : (a b c : ℤ) → (a +ℤ b) +ℤ (c -ℤ b) ≡ a +ℤ c
@@ -24,7 +30,7 @@ cancelled a b c = +ℤ-assoc a b (c -ℤ b) ∙ ap (λ (z : ℤ). a +ℤ z) (+�
 
 module _ (t step : ℕ) (inside : t ≤ step) where
   -- u·S + (w − u)·t = u·(S − t) + w·t: the rows, weighed by the other's distance
-  weighed : (u w : ℤ) → u *ℤ pos step +ℤ (w -ℤ u) *ℤ pos t ≡ u *ℤ pos (step - t) +ℤ w *ℤ pos t
+  pub weighed : (u w : ℤ) → exactBetween u w t step ≡ u *ℤ pos (step - t) +ℤ w *ℤ pos t
   weighed u w =
       let split : step ≡ (step - t) + t = omega arith in
       ap (λ (n : ℕ). u *ℤ pos n +ℤ (w -ℤ u) *ℤ pos t) split
@@ -40,6 +46,10 @@ module _ (t step : ℕ) (inside : t ≤ step) where
   pub between-sizes : (u w : ℕ) → between (pos u) (pos w) t step ≡ pos (nearestSize (u * (step - t) + w * t) step)
   unfolding nearest withSign
   between-sizes u w = between-weighed (pos u) (pos w)
+
+  pub half-sizes : (u w : ℕ) → betweenHalf (pos u) (pos w) t step ≡ onHalfSize (u * (step - t) + w * t) step
+  unfolding betweenHalf onHalf
+  half-sizes u w = ap (λ (z : ℤ). onHalf z step) (weighed (pos u) (pos w))
 
   -- the two weights together are the step
   whole-weight : (k : ℕ) → k * (step - t) + k * t ≡ k * step
@@ -75,11 +85,18 @@ module _ (t step : ℕ) (inside : t ≤ step) where
     sizes-least u w lo p q = nearestSize-least (u * (step - t) + w * t) step lo positive (weight-least u w lo p q)
 
 -- a whole step past a row is the next row
-pub at-next : (u w : ℤ) (step : ℕ) → 0 < step → between u w step step ≡ w
-at-next u w step h =
+exact-next : (u w : ℤ) (step : ℕ) → exactBetween u w step step ≡ w *ℤ pos step
+exact-next u w step =
     let none : step - step ≡ 0 = omega arith in
-    between-weighed step step (le-refl step) u w
-    ∙ ap (λ (n : ℕ). nearest (u *ℤ pos n +ℤ w *ℤ pos step) step) none
-    ∙ ap (λ (z : ℤ). nearest (z +ℤ w *ℤ pos step) step) (*ℤ-zero u)
-    ∙ ap (λ (z : ℤ). nearest z step) (+ℤ-idl (w *ℤ pos step))
-    ∙ nearest-multiple w step h
+    weighed step step (le-refl step) u w
+    ∙ ap (λ (n : ℕ). u *ℤ pos n +ℤ w *ℤ pos step) none
+    ∙ ap (λ (z : ℤ). z +ℤ w *ℤ pos step) (*ℤ-zero u)
+    ∙ +ℤ-idl (w *ℤ pos step)
+
+pub at-next : (u w : ℤ) (step : ℕ) → 0 < step → between u w step step ≡ w
+unfolding between
+at-next u w step h = ap (λ (z : ℤ). nearest z step) (exact-next u w step) ∙ nearest-multiple w step h
+
+pub no-half-at-next : (u w : ℤ) (step : ℕ) → 0 < step → betweenHalf u w step step ≡ false
+unfolding betweenHalf
+no-half-at-next u w step h = ap (λ (z : ℤ). onHalf z step) (exact-next u w step) ∙ whole-no-half w step h

@@ -6,5 +6,6 @@ pub mod Tests
 pub mod Holds
 pub mod Bits
 pub mod Rounding
+pub mod Halves
 pub mod Interval
 pub mod Raised

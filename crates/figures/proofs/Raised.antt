@@ -8,14 +8,13 @@ use lib.IntN.{ℤ, pos, negℤ, natAbs, _+ℤ_, _-ℤ_, _*ℤ_, +ℤ-assoc, +ℤ
 use lib.Signed.{leZ}
 use mir.Syntax.{w64}
 use mir.Val.{Fits, SFits, toZ, ofZ}
-use Rattle.figures.specs.Nearest.{nearest}
-use Rattle.figures.specs.Between.{between, lowered}
+use Rattle.figures.specs.Between.{exactBetween, lowered}
 use Rattle.figures.specs.Ranges.{mostRow, mostStep, mostNumerator}
 use Rattle.figures.proofs.Order.{leZ-shift}
 use Rattle.figures.proofs.Ring.{times-sum, sum-times, swap-last}
 use Rattle.figures.proofs.Sizes.{product-most}
 use Rattle.figures.proofs.Holds.{Holds, held-size, difference, difference-fits, rebounded, size-most}
-use Rattle.figures.proofs.Interval.{between-weighed}
+use Rattle.figures.proofs.Interval.{weighed}
 
 -- ---- reading between rows
 -- (a + b) + (c + d) = (a + c) + (b + d)
@@ -34,17 +33,17 @@ module _ (t step : ℕ) (inside : t ≤ step) where
       ∙ ap (λ (x : ℤ). u *ℤ pos (step - t) +ℤ w *ℤ pos t +ℤ x) (sym (times-sum k (pos (step - t)) (pos t)) ∙ ap (λ (n : ℕ). k *ℤ pos n) split)
 
   -- u and w are two rows' figures, raised
-  pub between-raised : (u w : ℕ) → nearest (pos (u * (step - t) + w * t) -ℤ pos (2_147_483_648 * step)) step ≡ between (lowered u) (lowered w) t step
+  pub exact-raised : (u w : ℕ) → pos (u * (step - t) + w * t) -ℤ pos (2_147_483_648 * step) ≡ exactBetween (lowered u) (lowered w) t step
   unfolding lowered
-  between-raised u w =
+  exact-raised u w =
       let k = pos 2_147_483_648 in
       let low = pos u -ℤ k in
       let next = pos w -ℤ k in
       let back : pos (u * (step - t) + w * t) ≡ (low +ℤ k) *ℤ pos (step - t) +ℤ (next +ℤ k) *ℤ pos t =
       rw (-ℤ-+ℤ-cancel (pos u) k, -ℤ-+ℤ-cancel (pos w) k) in
-      ap (λ (x : ℤ). nearest (x -ℤ pos (2_147_483_648 * step)) step) (back ∙ raised-sum low next k)
-      ∙ ap (λ (x : ℤ). nearest x step) (+ℤ-negℤ-cancel (low *ℤ pos (step - t) +ℤ next *ℤ pos t) (pos (2_147_483_648 * step)))
-      ∙ sym (between-weighed t step inside low next)
+      ap (λ (x : ℤ). x -ℤ pos (2_147_483_648 * step)) (back ∙ raised-sum low next k)
+      ∙ +ℤ-negℤ-cancel (low *ℤ pos (step - t) +ℤ next *ℤ pos t) (pos (2_147_483_648 * step))
+      ∙ sym (weighed t step inside low next)
 
 -- ---- the sum of the rows, weighed, as the code has it
 module _ (u w t step : ℕ) (hu : u ≤ mostRow) (hw : w ≤ mostRow) (ht : t ≤ step) (hs : step ≤ mostStep) where
@@ -70,8 +69,8 @@ module _ (u w t step : ℕ) (hu : u ≤ mostRow) (hw : w ≤ mostRow) (ht : t �
   weighed-fits = record { fits = omega (arith, weighed-most) }
 
   -- the same sum as a signed number, less what it is raised by
-  weighed : Holds w64 (u * (step - t) + w * t) (pos (u * (step - t) + w * t)) 2_000_000_000_000_000_000
-  weighed = held-size w64 weighed-most tt
+  sum-held : Holds w64 (u * (step - t) + w * t) (pos (u * (step - t) + w * t)) 2_000_000_000_000_000_000
+  sum-held = held-size w64 weighed-most tt
 
   raise : Holds w64 (2_147_483_648 * step) (pos (2_147_483_648 * step)) (2_147_483_648 * mostStep)
   raise = held-size w64 (omega arith) tt
@@ -80,10 +79,10 @@ module _ (u w t step : ℕ) (hu : u ≤ mostRow) (hw : w ≤ mostRow) (ht : t �
   weighed-signed = record { sfits = omega (arith, weighed-most) }
 
   pub less-raise-fits : SFits w64 (toZ w64 (u * (step - t) + w * t) -ℤ toZ w64 (2_147_483_648 * step))
-  less-raise-fits = difference-fits weighed raise tt
+  less-raise-fits = difference-fits sum-held raise tt
 
   pub less-raise : Holds w64 (ofZ w64 (toZ w64 (u * (step - t) + w * t) -ℤ toZ w64 (2_147_483_648 * step))) (pos (u * (step - t) + w * t) -ℤ pos (2_147_483_648 * step)) mostNumerator
-  less-raise = rebounded (difference weighed raise tt) refl (le-trans (difference weighed raise tt .size) (lit≤ tt))
+  less-raise = rebounded (difference sum-held raise tt) refl (le-trans (difference sum-held raise tt .size) (lit≤ tt))
 
   pub less-raise-most : natAbs (toZ w64 (ofZ w64 (toZ w64 (u * (step - t) + w * t) -ℤ toZ w64 (2_147_483_648 * step)))) ≤ mostNumerator
   less-raise-most = size-most less-raise tt

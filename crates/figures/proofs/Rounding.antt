@@ -1,16 +1,14 @@
 -- Laws of rounding. `nearestSize n d` is the one number r with r − 1/2 ≤ n/d < r + 1/2; `nearest` is odd, keeps multiples, and does not pass its operand in size.
 -- Assumes nothing.
 use mathlib.Core.Path.{_≡_, refl, sym, ap, _∙_}
-use Prim.Native.Nat.{ℕ, zero, suc, _+_, _*_, _/_, _%_, _^_, _<_, _≤_}
+use Prim.Native.Nat.{ℕ, zero, suc, _+_, _*_, _/_, _%_, _<_, _≤_}
 use native.Mathlib.Nat.{div-add-mod', mod-lt, div-eq-of-lt-le, mul-left-comm, add-mul, mul-le-mul-left, le-div-iff-mul-le}
 use native.Mathlib.Omega.{arith}
 use lib.IntN.{ℤ, pos, negsuc, negℤ, natAbs, _*ℤ_}
 use lib.Dec.{T}
-use lib.Signed.{mag, nonNeg}
+use lib.Signed.{nonNeg}
 use mir.Syntax.{w64}
-use mir.Val.{Fits, toZ, ofZ}
-use mir.Facts.{toZ-ofZ}
-use borrow.Author.Needs.{sfits-of}
+use mir.Val.{Fits, toZ}
 use Rattle.figures.specs.Nearest.{withSign, nearestSize, nearest}
 use Rattle.figures.specs.Ranges.{mostNumerator, mostDivisor}
 use Rattle.figures.proofs.Sizes.{size-withSign}
@@ -102,8 +100,8 @@ nearest-multiple (pos n) d h = ap pos (nearestSize-multiple n d h)
 nearest-multiple (negsuc n) d h = nearest-minus (suc n * d) d h ∙ ap (λ (k : ℕ). negℤ (pos k)) (nearestSize-multiple (suc n) d h)
 
 -- a step that hands its numerator to the function `nearest`: r is the call's result, and the bits n hold the numerator z
-pub rounded : {n B : ℕ} {z r : ℤ} (d : ℕ) → Holds w64 n z B → mag r < 2 ^ 63 → r ≡ nearest (toZ w64 n) d → toZ w64 (ofZ w64 r) ≡ nearest z d
-rounded d h ok e = toZ-ofZ (sfits-of ok) ∙ e ∙ ap (λ (z : ℤ). nearest z d) (h .is)
+pub rounded : {n B : ℕ} {z r : ℤ} (d : ℕ) → Holds w64 n z B → r ≡ nearest (toZ w64 n) d → r ≡ nearest z d
+rounded d h e = e ∙ ap (λ (z : ℤ). nearest z d) (h .is)
 
 -- the same where the numerator is not negative, and its size went to `nearest_size`
 pub rounded-size : {n B r : ℕ} {z : ℤ} (d : ℕ) → Holds w64 n z B → T (nonNeg z) → r ≡ nearestSize (natAbs (toZ w64 n)) d → pos r ≡ nearest z d

@@ -1,12 +1,21 @@
 -- Reading between rows: one definition for every table and every step.
+use mathlib.Core.Bool.{Bool}
 use Prim.Native.Nat.{ℕ}
 use lib.IntN.{ℤ, pos, _+ℤ_, _-ℤ_, _*ℤ_}
-use Rattle.figures.specs.Nearest.{nearest}
+use Rattle.figures.specs.Nearest.{nearest, onHalf}
 
--- "Between rows u and w of step S, at an offset t from 0 to below S, the value is u + (w − u)t/S, brought to the table's unit by nearest, once."
--- As one fraction over S: (u·S + (w − u)·t)/S. The value has the rows' unit; t and S share another.
+-- "Between rows u and w of step S, at an offset t from 0 to below S, the value is u + (w − u)t/S": as one fraction over S, this is what stands above the line,
+-- u·S + (w − u)·t. The value has the rows' unit; t and S share another.
+abbrev pub exactBetween : ℤ → ℤ → ℕ → ℕ → ℤ
+exactBetween u w t step = u *ℤ pos step +ℤ (w -ℤ u) *ℤ pos t
+
+-- "brought to the table's unit by nearest, once"
 unfoldable pub between : ℤ → ℤ → ℕ → ℕ → ℤ
-between u w t step = nearest (u *ℤ pos step +ℤ (w -ℤ u) *ℤ pos t) step
+between u w t step = nearest (exactBetween u w t step) step
+
+-- "Reading between rows .. shall also tell whether" its "exact value was a half."
+unfoldable pub betweenHalf : ℤ → ℤ → ℕ → ℕ → Bool
+betweenHalf u w t step = onHalf (exactBetween u w t step) step
 
 -- A figure from its word without a sign, raised by 2³¹: every figure of a word is a size then.
 unfoldable pub lowered : ℕ → ℤ

@@ -1,5 +1,6 @@
 -- Geographic to plane on a sheet that passes: the size of x′ is not negative, and x and y fit 32 bits. Assumes nothing.
 use mathlib.Core.Path.{_≡_, ap, _∙_}
+use mathlib.Core.Bool.{Bool, _||_}
 use mathlib.Core.List.{List}
 use Prim.Native.Nat.{ℕ, _*_, _-_, _≤_}
 use native.Mathlib.Nat.{le-trans, mul-le-mul-right}
@@ -9,23 +10,33 @@ use lib.IntN.{ℤ, pos, natAbs, _+ℤ_, _*ℤ_}
 use lib.Signed.{nonNeg}
 use Rattle.figures.specs.Nearest.{withSign}
 use Rattle.figures.specs.Ranges.{mostH, mostV, mostA, mostS}
-use Rattle.steps.specs.Steps.{qOf, sizeOfX, rise}
+use Rattle.steps.specs.Steps.{qOf, qHalf, sizeOfX, sizeOfXHalf, rise, riseHalf}
 use Rattle.figures.proofs.Sizes.{Size, size-from, sum-nonNeg, size-product, size-withSign, sum-most, product-most}
 use Rattle.steps.proofs.StepBounds.{q-most, x-size-most, rise-most}
 use Rattle.entries.specs.Layout.{latitude, longitude, stepOf}
 use Rattle.entries.specs.Entries.{rowsOf}
 use Rattle.bodies.specs.Check.{checkOf}
-use Rattle.tables.specs.Figures.{falseEasting, y0At, hAt, vAt, aAt, bAt, cAt}
+use Rattle.tables.specs.Figures.{falseEasting, y0At, y0Half, hAt, hHalf, vAt, vHalf, aAt, aHalf, bAt, bHalf, cAt, cHalf}
 use Rattle.tables.proofs.Ranges.{easting-size, y0-between, h-between, h-least, v-between, a-most, b-between, b-slope, c-between}
 use Rattle.extent.proofs.Reach.{longitude-span}
 use Rattle.extent.specs.Extent.{fromFirst, lOf}
-use Rattle.forward.specs.Forward.{plane, xSize, xOf, yOf, planeAt}
+use Rattle.forward.specs.Forward.{plane, xSize, xOf, xHalf, yOf, yHalf, planeFrom, planeAt}
 
 -- ---- the steps, from the figures as they were read: a′, b′ and c′ have the bits of a, b and c
 module _ (s : List ℕ) (t size : ℕ) where
   pub x-worked : {h : ℕ} {a a′ b b′ : ℤ} → h ≡ hAt s t → a′ ≡ a → a ≡ aAt s t → b′ ≡ b → b ≡ bAt s size → sizeOfX h size a′ b′ ≡ xSize s t size
   unfolding xSize
   x-worked p e f g k = rw (e ∙ f, g ∙ k, p)
+
+  pub x-marked : {h : ℕ} {a a′ b b′ : ℤ} {fh fa fb fx : Bool} → h ≡ hAt s t → a′ ≡ a → a ≡ aAt s t → b′ ≡ b → b ≡ bAt s size
+      → fh ≡ hHalf s t → fa ≡ aHalf s t → fb ≡ bHalf s size → fx ≡ sizeOfXHalf h size a′ b′ → (fh || fa || fb || fx) ≡ xHalf s t size
+  unfolding xHalf
+  x-marked p e f g k mh ma mb mx = rw (mx, mh, ma, mb, e ∙ f, g ∙ k, p)
+
+  pub y-marked : {v q : ℕ} {c c′ : ℤ} {fy fv fc fq fr : Bool} → v ≡ vAt s t → q ≡ qOf size → c′ ≡ c → c ≡ cAt s size
+      → fy ≡ y0Half s t → fv ≡ vHalf s t → fc ≡ cHalf s size → fq ≡ qHalf size → fr ≡ riseHalf v q c′ → (fy || fv || fc || fq || fr) ≡ yHalf s t size
+  unfolding yHalf
+  y-marked p e f g my mv mc mq mr = rw (mr, my, mv, mc, mq, f ∙ g, e, p)
 
   pub rise-worked : {v q : ℕ} {c c′ : ℤ} → v ≡ vAt s t → q ≡ qOf size → c′ ≡ c → c ≡ cAt s size → rise v q c′ ≡ rise (vAt s t) (qOf size) (cAt s size)
   rise-worked p e f g = rw (f ∙ g, e, p)
@@ -35,10 +46,10 @@ pub sign-worked : (s : List ℕ) (t : ℕ) (l : ℤ) {n : ℕ} {l′ x x′ : �
 sign-worked s t l p q e f = rw (e ∙ f, q, p)
 
 -- n is the size of L, t the latitude's distance, and x′, y′ and l′ have the bits of x, y and L
-pub plane-worked : (s : List ℕ) (north west : ℤ) {t n : ℕ} {x x′ y y′ l′ : ℤ} → t ≡ natAbs (fromFirst s north) → l′ ≡ lOf s west → n ≡ natAbs l′
-    → x′ ≡ x → x ≡ xOf s t l′ → y′ ≡ y → y ≡ yOf s t n → plane 0 x′ y′ ≡ planeAt s north west
-unfolding planeAt
-plane-worked s north west p q r e f g k = rw (e ∙ f, g ∙ k, r, q, p)
+pub plane-worked : (s : List ℕ) (north west : ℤ) {t n : ℕ} {x x′ y y′ l′ : ℤ} {fx fy : Bool} → t ≡ natAbs (fromFirst s north) → l′ ≡ lOf s west → n ≡ natAbs l′
+    → x′ ≡ x → x ≡ xOf s t l′ → y′ ≡ y → y ≡ yOf s t n → fx ≡ xHalf s t (natAbs l′) → fy ≡ yHalf s t n → plane 0 x′ y′ (fx || fy) ≡ planeAt s north west
+unfolding planeAt planeFrom
+plane-worked s north west p q r e f g k mx my = rw (e ∙ f, g ∙ k, mx, my, r, q, p)
 
 -- ---- at a place within the tables
 module _ (s : List ℕ) (z : checkOf s .number ≡ 0) (t : ℕ) (ht : t ≤ (rowsOf s latitude - 1) * stepOf latitude) where

@@ -1,5 +1,6 @@
 // Geographic to plane, on a sheet known to pass, with its places in hand: 10, 11, or x and y.
 use entries::Places;
+use figures::Rounded;
 ghost use mathlib.Core.Path.{_≡_};
 ghost use mathlib.Core.Bool.{true};
 ghost use Prim.Native.Nat.{_-_, _*_, _≤_};
@@ -7,45 +8,58 @@ ghost use lib.IntN.{natAbs};
 ghost use Rattle.entries.specs.Layout.{latitude, longitude, stepOf};
 ghost use Rattle.entries.specs.Entries.{rowsOf, placesOf};
 ghost use Rattle.bodies.specs.Check.{checkOf};
-ghost use Rattle.tables.specs.Figures.{bAt, cAt};
+ghost use Rattle.tables.specs.Figures.{bAt, bHalf, cAt, cHalf};
 ghost use Rattle.extent.specs.Extent.{latitudeKnown, longitudeKnown};
-ghost use Rattle.forward.specs.Forward.{xSize, xOf, yOf, planeAt, forwardOf};
+ghost use Rattle.forward.specs.Forward.{xSize, xOf, xHalf, yOf, yHalf, planeAt, forwardOf};
 
-// A point on the plane: x and y in 0.01 ft. A refusal has its number and zeros.
+// A point on the plane: x and y in 0.01 ft, and whether some rounding on the way to them met a half. A refusal has its number, zeros and no half.
 pub struct Plane {
     pub number: u32,
     pub x: i32,
     pub y: i32,
+    pub half: bool,
 }
 
 // The size of x′, in 0.01 ft, at the latitude's distance t from row 0 and the size of L, with b read there.
-fn x_size(s: &[u8], p: Places, t: u64, size: u64, b: i64) -> i64
-    requires { ⌜ (checkOf (now s) .number ≡ 0) × (p ≡ placesOf (now s)) × (t ≤ (rowsOf (now s) latitude - 1) * stepOf latitude) × (size ≤ (rowsOf (now s) longitude - 1) * stepOf longitude) × (b ≡ bAt (now s) size) ⌝ }
-    ensures { λ r. ⌜ (r ≡ xSize (now (s .entry)) t size) × (natAbs r ≤ 61_204_000) ⌝ }
+fn x_size(s: &[u8], p: Places, t: u64, size: u64, b: Rounded) -> Rounded
+    requires { ⌜ (checkOf (now s) .number ≡ 0) × (p ≡ placesOf (now s)) × (t ≤ (rowsOf (now s) latitude - 1) * stepOf latitude) × (size ≤ (rowsOf (now s) longitude - 1) * stepOf longitude) × (b .value ≡ bAt (now s) size) × (b .half ≡ bHalf (now s) size) ⌝ }
+    ensures { λ r. ⌜ (r .value ≡ xSize (now (s .entry)) t size) × (natAbs (r .value) ≤ 61_204_000) × (r .half ≡ xHalf (now (s .entry)) t size) ⌝ }
 {
     let h = tables::h_at(s, p, t);
     let a = tables::a_at(s, p, t);
-    steps::size_of_x(h, size, a, b) as i64
+    let x = steps::size_of_x(h.value, size, a.value, b.value);
+    Rounded {
+        value: x.value as i64,
+        half: h.half | a.half | b.half | x.half,
+    }
 }
 
 // x, in 0.01 ft, with b read at the size of L.
-fn x_of(s: &[u8], p: Places, t: u64, l: i64, b: i64) -> i32
-    requires { ⌜ (checkOf (now s) .number ≡ 0) × (p ≡ placesOf (now s)) × (t ≤ (rowsOf (now s) latitude - 1) * stepOf latitude) × (natAbs l ≤ (rowsOf (now s) longitude - 1) * stepOf longitude) × (b ≡ bAt (now s) (natAbs l)) ⌝ }
-    ensures { λ r. ⌜ r ≡ xOf (now (s .entry)) t l ⌝ }
+fn x_of(s: &[u8], p: Places, t: u64, l: i64, b: Rounded) -> Rounded
+    requires { ⌜ (checkOf (now s) .number ≡ 0) × (p ≡ placesOf (now s)) × (t ≤ (rowsOf (now s) latitude - 1) * stepOf latitude) × (natAbs l ≤ (rowsOf (now s) longitude - 1) * stepOf longitude) × (b .value ≡ bAt (now s) (natAbs l)) × (b .half ≡ bHalf (now s) (natAbs l)) ⌝ }
+    ensures { λ r. ⌜ (r .value ≡ xOf (now (s .entry)) t l) × (natAbs (r .value) ≤ 161_204_000) × (r .half ≡ xHalf (now (s .entry)) t (natAbs l)) ⌝ }
 {
-    let x = figures::with_sign(l, x_size(s, p, t, figures::size(l), b));
-    (x + tables::false_easting(s, p)) as i32
+    let size = x_size(s, p, t, figures::size(l), b);
+    let x = figures::with_sign(l, size.value);
+    Rounded {
+        value: x + tables::false_easting(s, p),
+        half: size.half,
+    }
 }
 
 // y, in 0.01 ft, with c read at the size of L.
-fn y_of(s: &[u8], p: Places, t: u64, size: u64, c: i64) -> i32
-    requires { ⌜ (checkOf (now s) .number ≡ 0) × (p ≡ placesOf (now s)) × (t ≤ (rowsOf (now s) latitude - 1) * stepOf latitude) × (size ≤ (rowsOf (now s) longitude - 1) * stepOf longitude) × (c ≡ cAt (now s) size) ⌝ }
-    ensures { λ r. ⌜ r ≡ yOf (now (s .entry)) t size ⌝ }
+fn y_of(s: &[u8], p: Places, t: u64, size: u64, c: Rounded) -> Rounded
+    requires { ⌜ (checkOf (now s) .number ≡ 0) × (p ≡ placesOf (now s)) × (t ≤ (rowsOf (now s) latitude - 1) * stepOf latitude) × (size ≤ (rowsOf (now s) longitude - 1) * stepOf longitude) × (c .value ≡ cAt (now s) size) × (c .half ≡ cHalf (now s) size) ⌝ }
+    ensures { λ r. ⌜ (r .value ≡ yOf (now (s .entry)) t size) × (natAbs (r .value) ≤ 1_000_504_199) × (r .half ≡ yHalf (now (s .entry)) t size) ⌝ }
 {
     let q = steps::q_of(size);
     let v = tables::v_at(s, p, t);
     let y0 = tables::y0_at(s, p, t);
-    (y0 + steps::rise(v, q, c)) as i32
+    let rise = steps::rise(v.value, q.value, c.value);
+    Rounded {
+        value: y0.value + rise.value,
+        half: y0.half | v.half | c.half | q.half | rise.half,
+    }
 }
 
 // The point on the plane, of a latitude and a longitude within the tables. What is read at the size of L comes first: it is ready when H and a are.
@@ -58,10 +72,13 @@ fn plane_at(s: &[u8], p: Places, latitude: i32, longitude: i32) -> Plane
     let size = figures::size(l);
     let c = tables::c_at(s, p, size);
     let b = tables::b_at(s, p, size);
+    let x = x_of(s, p, t, l, b);
+    let y = y_of(s, p, t, size, c);
     Plane {
         number: 0,
-        x: x_of(s, p, t, l, b),
-        y: y_of(s, p, t, size, c),
+        x: x.value as i32,
+        y: y.value as i32,
+        half: x.half | y.half,
     }
 }
 
@@ -75,6 +92,7 @@ pub fn forward(s: &[u8], p: Places, latitude: i32, longitude: i32) -> Plane
             number: 10,
             x: 0,
             y: 0,
+            half: false,
         };
     }
     if !extent::longitude_known(s, p, longitude) {
@@ -82,6 +100,7 @@ pub fn forward(s: &[u8], p: Places, latitude: i32, longitude: i32) -> Plane
             number: 11,
             x: 0,
             y: 0,
+            half: false,
         };
     }
     plane_at(s, p, latitude, longitude)

@@ -7,11 +7,12 @@ ghost use Rattle.bodies.specs.Check.{checkOf};
 ghost use Rattle.extent.specs.Extent.{scaleKnown, northingKnown};
 ghost use Rattle.grid.specs.Grid.{gridAt, gridOf};
 
-// The grid at a point: the convergence Δα in 0.1″ and the scale k in 10⁻⁷. A refusal has its number and zeros.
+// The grid at a point: the convergence Δα in 0.1″, the scale k in 10⁻⁷, and whether some rounding on the way to them met a half. A refusal has its number, zeros and no half.
 pub struct Grid {
     pub number: u32,
     pub convergence: i32,
     pub scale: i32,
+    pub half: bool,
 }
 
 // The grid at a point within the tables.
@@ -21,10 +22,12 @@ fn grid_at(s: &[u8], p: Places, xp: i64, y: i32) -> Grid
 {
     let m = tables::m_at(s, p, (y as i64) as u64);
     let k = tables::k_at(s, p, figures::size(xp));
+    let convergence = steps::convergence(m.value, xp);
     Grid {
         number: 0,
-        convergence: steps::convergence(m, xp) as i32,
-        scale: k as i32,
+        convergence: convergence.value as i32,
+        scale: k.value as i32,
+        half: m.half | k.half | convergence.half,
     }
 }
 
@@ -39,6 +42,7 @@ pub fn convergence(s: &[u8], p: Places, x: i32, y: i32) -> Grid
             number: 12,
             convergence: 0,
             scale: 0,
+            half: false,
         };
     }
     if !extent::northing_known(s, p, y) {
@@ -46,6 +50,7 @@ pub fn convergence(s: &[u8], p: Places, x: i32, y: i32) -> Grid
             number: 13,
             convergence: 0,
             scale: 0,
+            half: false,
         };
     }
     grid_at(s, p, xp, y)

@@ -1,6 +1,6 @@
 -- Plane to geographic on a sheet that passes: the row of a reduced northing within the y0, the seconds past it, and the latitude's distance from row 0. Assumes nothing.
 use mathlib.Core.Path.{_≡_, refl, sym, ap, _∙_, subst}
-use mathlib.Core.Bool.{true}
+use mathlib.Core.Bool.{Bool, true, false}
 use mathlib.Core.List.{List}
 use Prim.Native.Nat.{ℕ, _+_, _*_, _-_, _<_, _≤_}
 use native.Mathlib.Nat.{le-trans}
@@ -13,7 +13,7 @@ use lib.Signed.{leZ, ltZ, nonNeg}
 use mir.Syntax.{w64}
 use mir.Val.{Fits}
 use Rattle.figures.specs.Ranges.{mostGap}
-use Rattle.steps.specs.Steps.{seconds}
+use Rattle.steps.specs.Steps.{seconds, secondsHalf}
 use Rattle.figures.proofs.Sizes.{Size, pos-minus, subℕ-le}
 use Rattle.figures.proofs.Rounding.{nearestSize-most}
 use Rattle.words.specs.Ladder.{whereBelow}
@@ -27,7 +27,7 @@ use Rattle.tables.proofs.Ranges.{latitude-some, y0-size}
 use Rattle.extent.specs.Extent.{reducedKnown}
 use Rattle.extent.proofs.Counts.{count-small}
 use Rattle.extent.proofs.Reach.{latitude-span, reduced-reach}
-use Rattle.inverse.specs.Inverse.{rowOf, secondsPast, distanceOf}
+use Rattle.inverse.specs.Inverse.{rowOf, secondsPast, secondsPastHalf, distanceOf}
 
 -- ---- the order of sizes, and their difference
 above-size : (a b : ℤ) → a ≡ pos (natAbs a) → leZ a b ≡ true → (b ≡ pos (natAbs b)) × (natAbs a ≤ natAbs b)
@@ -150,6 +150,16 @@ module _ (s : List ℕ) (ok : checkOf s .number ≡ 0) (z : ℤ) (known : reduce
           seconds-are step r st a =
               a ∙ rw (st, past-same, gap-same, e)
               (sym (where-below (rowOf s z + 1) n (seconds (stepOf latitude) (natAbs (z -ℤ y0Of s (rowOf s z))) (natAbs (y0Of s (rowOf s z + 1) -ℤ y0Of s (rowOf s z)))) 0 there))
+
+          pub seconds-marked : (step : ℕ) (half : Bool) → step ≡ stepOf latitude → half ≡ secondsHalf step past gap → half ≡ secondsPastHalf s z row
+          unfolding secondsPastHalf
+          seconds-marked step half st a =
+              a ∙ rw (st, past-same, gap-same, e)
+              (sym (where-below (rowOf s z + 1) n (secondsHalf (stepOf latitude) (natAbs (z -ℤ y0Of s (rowOf s z))) (natAbs (y0Of s (rowOf s z + 1) -ℤ y0Of s (rowOf s z)))) false there))
+
+    pub no-seconds-half : n ≤ row + 1 → false ≡ secondsPastHalf s z row
+    unfolding secondsPastHalf
+    no-seconds-half h = sym (where-beyond (row + 1) n _ false h)
 
     pub no-seconds : n ≤ row + 1 → 0 ≡ secondsPast s z row
     unfolding secondsPast

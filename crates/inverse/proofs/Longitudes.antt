@@ -1,6 +1,6 @@
 -- Plane to geographic on a sheet that passes: approximate L, the size of L, which is not negative, and the point, which fits 32 bits. Assumes nothing.
 use mathlib.Core.Path.{_≡_, _∙_}
-use mathlib.Core.Bool.{true}
+use mathlib.Core.Bool.{Bool, true, _||_}
 use mathlib.Core.List.{List}
 use Prim.Native.Nat.{ℕ, zero, suc, _*_, _-_, _≤_}
 use native.Mathlib.Nat.{le-trans, mul-le-mul-left}
@@ -9,23 +9,28 @@ use lib.Dec.{T, lit≤}
 use lib.IntN.{ℤ, pos, negℤ, natAbs, _+ℤ_, _-ℤ_, _*ℤ_}
 use lib.Signed.{nonNeg}
 use Rattle.figures.specs.Ranges.{mostA, mostX}
-use Rattle.steps.specs.Steps.{approximateL, sizeOfL, reduction}
+use Rattle.steps.specs.Steps.{approximateL, approximateLHalf, sizeOfL, sizeOfLHalf, reduction, reductionHalf}
 use Rattle.figures.proofs.Sizes.{Size, size-from, sum-nonNeg, size-minus, size-product, product-most}
 use Rattle.figures.proofs.Rounding.{IsNearest, is-nearest}
 use Rattle.steps.proofs.StepBounds.{reduction-most, approximate-most, l-size-most}
 use Rattle.entries.specs.Layout.{latitude, northing, easting, stepOf}
 use Rattle.entries.specs.Entries.{rowsOf}
 use Rattle.bodies.specs.Check.{checkOf}
-use Rattle.tables.specs.Figures.{firstLatitude, hAt, aAt, bAt, pAt, dAt}
+use Rattle.tables.specs.Figures.{firstLatitude, hAt, hHalf, aAt, aHalf, bAt, bHalf, pAt, pHalf, dAt, dHalf}
 use Rattle.tables.proofs.Ranges.{h-least, a-most, b-between, b-slope, p-between, d-between}
 use Rattle.extent.specs.Extent.{sizeKnown}
 use Rattle.extent.proofs.Reach.{easting-span, size-reach}
-use Rattle.inverse.specs.Inverse.{geographic, approximateOf, sizeOf, longitudeOf, geographicAt}
+use Rattle.inverse.specs.Inverse.{geographic, reducedHalf, approximateOf, sizeOf, sizeHalf, longitudeOf, geographicAt}
 
 -- ---- the steps, from the figures as they were read: a number with ′ has the bits of the one without
 pub reduction-worked : (s : List ℕ) (x : ℕ) (y : ℤ) {p : ℕ} {y′ d d′ : ℤ} → y′ ≡ y → p ≡ pAt s (natAbs y′) → d′ ≡ d → d ≡ dAt s x
     → reduction p x d′ ≡ reduction (pAt s (natAbs y)) x (dAt s x)
 reduction-worked s x y e f g k = rw (g ∙ k, f, e)
+
+pub reduced-marked : (s : List ℕ) (x : ℕ) (y : ℤ) {p : ℕ} {y′ d d′ : ℤ} {fp fd fr : Bool} → y′ ≡ y → p ≡ pAt s (natAbs y′) → d′ ≡ d → d ≡ dAt s x
+    → fp ≡ pHalf s (natAbs y′) → fd ≡ dHalf s x → fr ≡ reductionHalf p x d′ → (fp || fd || fr) ≡ reducedHalf s x y
+unfolding reducedHalf
+reduced-marked s x y e f g k mp md mr = rw (mr, mp, md, g ∙ k, f, e)
 
 module _ (s : List ℕ) (x t : ℕ) where
   pub approximate-worked : {h : ℕ} → h ≡ hAt s t → approximateL x h * 1_000 ≡ approximateOf s x t
@@ -36,10 +41,16 @@ module _ (s : List ℕ) (x t : ℕ) where
   unfolding sizeOf
   size-worked n h e f g k = rw (e ∙ f, g ∙ k, n, h)
 
-pub geographic-worked : (s : List ℕ) (xp : ℤ) (t : ℕ) {north north′ west west′ : ℤ} → north′ ≡ north → north ≡ firstLatitude s +ℤ pos t → west′ ≡ west → west ≡ longitudeOf s xp t
-    → geographic 0 north′ west′ ≡ geographicAt s xp t
+  pub size-marked : {n h : ℕ} {a a′ b b′ : ℤ} {fh fa fn fb fl : Bool} → n ≡ approximateOf s x t → h ≡ hAt s t → a′ ≡ a → a ≡ aAt s t → b′ ≡ b → b ≡ bAt s n
+      → fh ≡ hHalf s t → fa ≡ aHalf s t → fn ≡ approximateLHalf x (hAt s t) → fb ≡ bHalf s n → fl ≡ sizeOfLHalf x a′ b′ h → (fh || fa || fn || fb || fl) ≡ sizeHalf s x t
+  unfolding sizeHalf
+  size-marked n h e f g k mh ma mn mb ml = rw (ml, mh, ma, mn, mb, e ∙ f, g ∙ k, n, h)
+
+pub geographic-worked : (s : List ℕ) (xp : ℤ) (t : ℕ) (met : Bool) {north north′ west west′ : ℤ} {half : Bool}
+    → north′ ≡ north → north ≡ firstLatitude s +ℤ pos t → west′ ≡ west → west ≡ longitudeOf s xp t → half ≡ sizeHalf s (natAbs xp) t
+    → geographic 0 north′ west′ (met || half) ≡ geographicAt s xp t met
 unfolding geographicAt
-geographic-worked s xp t e f g k = rw (e ∙ f, g ∙ k)
+geographic-worked s xp t met e f g k m = rw (e ∙ f, g ∙ k, m)
 
 -- ---- sizes: n is approximate L in whole seconds, for H of at least 30 and |x′| in 0.01 ft
 approximate-low : (x h n : ℕ) → 30_000_000 ≤ h → IsNearest (x * 10_000) h n → 1_500 * n ≤ x

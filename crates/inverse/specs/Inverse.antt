@@ -1,27 +1,32 @@
 -- "Plane to geographic." x and y in 0.01 ft, latitude and longitude in 0.001″. s is the sheet, xp is x′, and x, where a step takes it, the size of x′.
+use mathlib.Core.Bool.{Bool, false, _||_}
 use mathlib.Core.List.{List}
 use Prim.Native.Nat.{ℕ, _+_, _*_}
 use lib.IntN.{ℤ, pos, natAbs, _+ℤ_, _-ℤ_}
 use Rattle.figures.specs.Nearest.{withSign}
-use Rattle.steps.specs.Steps.{reduction, seconds, approximateL, sizeOfL}
+use Rattle.steps.specs.Steps.{reduction, reductionHalf, seconds, secondsHalf, approximateL, approximateLHalf, sizeOfL, sizeOfLHalf}
 use Rattle.words.specs.Ladder.{need, whereBelow}
 use Rattle.entries.specs.Layout.{latitude, stepOf}
 use Rattle.entries.specs.Entries.{rowsOf}
 use Rattle.row_search.specs.Rows.{lastNotAbove}
-use Rattle.tables.specs.Figures.{centralMeridian, firstLatitude, y0Of, hAt, aAt, bAt, pAt, dAt}
+use Rattle.tables.specs.Figures.{centralMeridian, firstLatitude, y0Of, hAt, hHalf, aAt, aHalf, bAt, bHalf, pAt, pHalf, dAt, dHalf}
 use Rattle.extent.specs.Extent.{sizeKnown, xPrime, eastingKnown, northingKnown, reducedKnown}
 use Rattle.inverse.specs.declared.Geographic.{Geographic}
 
--- The answer: latitude and west longitude, in 0.001″. "A refused conversion carries zeros."
-abbrev pub geographic : ℕ → ℤ → ℤ → Geographic
-geographic number latitude longitude = record { number = number; latitude = latitude; longitude = longitude }
+-- The answer: latitude and west longitude, in 0.001″, and whether "some rounding in it met a half (no in a refusal)". "A refused conversion carries zeros."
+abbrev pub geographic : ℕ → ℤ → ℤ → Bool → Geographic
+geographic number latitude longitude half = record { number = number; latitude = latitude; longitude = longitude; half = half }
 
 abbrev pub noGeographic : ℕ → Geographic
-noGeographic number = geographic number (pos 0) (pos 0)
+noGeographic number = geographic number (pos 0) (pos 0) false
 
 -- "P is read at y, d at |x′|. Reduced northing = y − nearest hundredth of (P(x′/10,000)² + d)"
 unfoldable pub reducedNorthing : List ℕ → ℕ → ℤ → ℤ
 reducedNorthing s x y = y -ℤ reduction (pAt s (natAbs y)) x (dAt s x)
+
+-- Some rounding up to it met a half.
+unfoldable pub reducedHalf : List ℕ → ℕ → ℤ → Bool
+reducedHalf s x y = pHalf s (natAbs y) || dHalf s x || reductionHalf (pAt s (natAbs y)) x (dAt s x)
 
 -- "The row is the last with y0 not above it"
 unfoldable pub rowOf : List ℕ → ℤ → ℕ
@@ -34,10 +39,19 @@ secondsPast s reduced row =
     (seconds (stepOf latitude) (natAbs (reduced -ℤ y0Of s row)) (natAbs (y0Of s (row + 1) -ℤ y0Of s row)))
     0
 
+unfoldable pub secondsPastHalf : List ℕ → ℤ → ℕ → Bool
+secondsPastHalf s reduced row =
+    whereBelow (row + 1) (rowsOf s latitude)
+    (secondsHalf (stepOf latitude) (natAbs (reduced -ℤ y0Of s row)) (natAbs (y0Of s (row + 1) -ℤ y0Of s row)))
+    false
+
 -- The latitude's distance from row 0: the row's, and the seconds. "If that comes to 60.000 the latitude is the next minute": 60.000 past a row is the next row
 -- itself, at which nothing is left to read between rows.
 unfoldable pub distanceOf : List ℕ → ℤ → ℕ
 distanceOf s reduced = rowOf s reduced * stepOf latitude + secondsPast s reduced (rowOf s reduced)
+
+unfoldable pub distanceHalf : List ℕ → ℤ → Bool
+distanceHalf s reduced = secondsPastHalf s reduced (rowOf s reduced)
 
 -- "Read H and a there. Approximate L = |x′|/H to a whole second", here in 0.001″. t is the latitude's distance from row 0.
 unfoldable pub approximateOf : List ℕ → ℕ → ℕ → ℕ
@@ -47,29 +61,33 @@ approximateOf s x t = approximateL x (hAt s t) * 1_000
 unfoldable pub sizeOf : List ℕ → ℕ → ℕ → ℤ
 sizeOf s x t = sizeOfL x (aAt s t) (bAt s (approximateOf s x t)) (hAt s t)
 
+-- Some rounding from the latitude on met a half: H, a, approximate L, b, and the size of L.
+unfoldable pub sizeHalf : List ℕ → ℕ → ℕ → Bool
+sizeHalf s x t = hHalf s t || aHalf s t || approximateLHalf x (hAt s t) || bHalf s (approximateOf s x t) || sizeOfLHalf x (aAt s t) (bAt s (approximateOf s x t)) (hAt s t)
+
 -- "with the sign of x′. Longitude = central meridian − L."
 unfoldable pub longitudeOf : List ℕ → ℤ → ℕ → ℤ
 longitudeOf s xp t = centralMeridian s -ℤ withSign xp (sizeOf s (natAbs xp) t)
 
--- The point on the earth.
-unfoldable pub geographicAt : List ℕ → ℤ → ℕ → Geographic
-geographicAt s xp t = geographic 0 (firstLatitude s +ℤ pos t) (longitudeOf s xp t)
+-- The point on the earth. `met`, here and below: some rounding before met a half.
+unfoldable pub geographicAt : List ℕ → ℤ → ℕ → Bool → Geographic
+geographicAt s xp t met = geographic 0 (firstLatitude s +ℤ pos t) (longitudeOf s xp t) (met || sizeHalf s (natAbs xp) t)
 
 -- "inverse 12, 13, 14, 11", on a sheet that passes, in three parts of which each goes on to the one above it. From the latitude on: 11, where "the size of L (.. approximate or
 -- final)" is "above the last kind 3 row".
-unfoldable pub fromDistance : List ℕ → ℤ → ℕ → Geographic
-fromDistance s xp t =
+unfoldable pub fromDistance : List ℕ → ℤ → ℕ → Bool → Geographic
+fromDistance s xp t met =
     need (sizeKnown s (pos (approximateOf s (natAbs xp) t))) (noGeographic 11)
     (need (sizeKnown s (sizeOf s (natAbs xp) t)) (noGeographic 11)
-    (geographicAt s xp t))
+    (geographicAt s xp t met))
 
 -- From the reduced northing on: 14, then the latitude.
-unfoldable pub fromReduced : List ℕ → ℤ → ℤ → Geographic
-fromReduced s xp reduced = need (reducedKnown s reduced) (noGeographic 14) (fromDistance s xp (distanceOf s reduced))
+unfoldable pub fromReduced : List ℕ → ℤ → ℤ → Bool → Geographic
+fromReduced s xp reduced met = need (reducedKnown s reduced) (noGeographic 14) (fromDistance s xp (distanceOf s reduced) (met || distanceHalf s reduced))
 
 -- From x and y on: 12, 13, then the reduced northing.
 unfoldable pub inverseOf : List ℕ → ℤ → ℤ → Geographic
 inverseOf s x y =
     need (eastingKnown s (xPrime s x)) (noGeographic 12)
     (need (northingKnown s y) (noGeographic 13)
-    (fromReduced s (xPrime s x) (reducedNorthing s (natAbs (xPrime s x)) y)))
+    (fromReduced s (xPrime s x) (reducedNorthing s (natAbs (xPrime s x)) y) (reducedHalf s (natAbs (xPrime s x)) y)))

@@ -1,5 +1,7 @@
 // Plane to geographic, on a sheet known to pass, with its places in hand: 12, 13, 14, 11, or latitude and longitude.
 use entries::Places;
+use figures::Rounded;
+use figures::RoundedSize;
 ghost use mathlib.Core.Path.{_≡_};
 ghost use mathlib.Core.Bool.{true};
 ghost use Prim.Native.Nat.{_-_, _*_, _^_, _<_, _≤_};
@@ -9,25 +11,32 @@ ghost use Rattle.figures.specs.Ranges.{mostGap};
 ghost use Rattle.entries.specs.Layout.{latitude, easting, stepOf};
 ghost use Rattle.entries.specs.Entries.{rowsOf, placesOf};
 ghost use Rattle.bodies.specs.Check.{checkOf};
+ghost use Rattle.steps.specs.Steps.{approximateLHalf};
+ghost use Rattle.tables.specs.Figures.{hAt};
 ghost use Rattle.extent.specs.Extent.{sizeKnown, eastingKnown, northingKnown, reducedKnown};
-ghost use Rattle.inverse.specs.Inverse.{reducedNorthing, rowOf, secondsPast, distanceOf, approximateOf, sizeOf, geographicAt, fromDistance, fromReduced, inverseOf};
+ghost use Rattle.inverse.specs.Inverse.{reducedNorthing, reducedHalf, rowOf, secondsPast, secondsPastHalf, distanceOf, distanceHalf, approximateOf, sizeOf, sizeHalf, geographicAt, fromDistance, fromReduced, inverseOf};
 
-// A point on the earth: latitude and west longitude in 0.001″. A refusal has its number and zeros.
+// A point on the earth: latitude and west longitude in 0.001″, and whether some rounding on the way to them met a half. A refusal has its number, zeros and no half.
 pub struct Geographic {
     pub number: u32,
     pub latitude: i32,
     pub longitude: i32,
+    pub half: bool,
 }
 
 // The reduced northing, in 0.01 ft, at the size x of x′ and y.
-pub fn reduced_northing(s: &[u8], p: Places, x: u64, y: i32) -> i64
+pub fn reduced_northing(s: &[u8], p: Places, x: u64, y: i32) -> Rounded
     requires { ⌜ (checkOf (now s) .number ≡ 0) × (p ≡ placesOf (now s)) × (x ≤ (rowsOf (now s) easting - 1) * stepOf easting) × (northingKnown (now s) y ≡ true) ⌝ }
-    ensures { λ r. ⌜ (r ≡ reducedNorthing (now (s .entry)) x y) × (natAbs r < 2 ^ 62) ⌝ }
+    ensures { λ r. ⌜ (r .value ≡ reducedNorthing (now (s .entry)) x y) × (natAbs (r .value) < 2 ^ 62) × (r .half ≡ reducedHalf (now (s .entry)) x y) ⌝ }
 {
     let north = y as i64;
     let big_p = tables::p_at(s, p, north as u64);
     let d = tables::d_at(s, p, x);
-    north - steps::reduction(big_p, x, d)
+    let reduction = steps::reduction(big_p.value, x, d.value);
+    Rounded {
+        value: north - reduction.value,
+        half: big_p.half | d.half | reduction.half,
+    }
 }
 
 // How far high stands above low, both northings in 0.01 ft.
@@ -39,9 +48,9 @@ fn above(low: i64, high: i64) -> u64
 }
 
 // The seconds of the reduced northing past its row, in 0.001″.
-fn seconds_past(s: &[u8], p: Places, reduced: i64, row: usize) -> u64
+fn seconds_past(s: &[u8], p: Places, reduced: i64, row: usize) -> RoundedSize
     requires { ⌜ (checkOf (now s) .number ≡ 0) × (p ≡ placesOf (now s)) × (reducedKnown (now s) reduced ≡ true) × (row ≡ rowOf (now s) reduced) ⌝ }
-    ensures { λ r. ⌜ r ≡ secondsPast (now (s .entry)) reduced row ⌝ }
+    ensures { λ r. ⌜ (r .value ≡ secondsPast (now (s .entry)) reduced row) × (r .half ≡ secondsPastHalf (now (s .entry)) reduced row) ⌝ }
 {
     if row + 1 < p.latitude.rows {
         let y0 = tables::y0_of(s, p, row);
@@ -52,88 +61,108 @@ fn seconds_past(s: &[u8], p: Places, reduced: i64, row: usize) -> u64
             above(y0, next),
         )
     } else {
-        0
+        RoundedSize {
+            value: 0,
+            half: false,
+        }
     }
 }
 
 // The distance of the reduced northing's latitude from row 0, in 0.001″.
-fn distance_of(s: &[u8], p: Places, reduced: i64) -> u64
+fn distance_of(s: &[u8], p: Places, reduced: i64) -> RoundedSize
     requires { ⌜ (checkOf (now s) .number ≡ 0) × (p ≡ placesOf (now s)) × (reducedKnown (now s) reduced ≡ true) × (natAbs reduced < 2 ^ 62) ⌝ }
-    ensures { λ r. ⌜ (r ≡ distanceOf (now (s .entry)) reduced) × (r ≤ (rowsOf (now (s .entry)) latitude - 1) * stepOf latitude) ⌝ }
+    ensures { λ r. ⌜ (r .value ≡ distanceOf (now (s .entry)) reduced) × (r .value ≤ (rowsOf (now (s .entry)) latitude - 1) * stepOf latitude) × (r .half ≡ distanceHalf (now (s .entry)) reduced) ⌝ }
 {
     let row = tables::row_of(s, p.latitude, reduced);
-    (row as u64) * entries::step_of(entries::LATITUDE) + seconds_past(s, p, reduced, row)
+    let seconds = seconds_past(s, p, reduced, row);
+    RoundedSize {
+        value: (row as u64) * entries::step_of(entries::LATITUDE) + seconds.value,
+        half: seconds.half,
+    }
 }
 
 // Approximate L, in 0.001″, at the size x of x′ and the latitude's distance t from row 0.
-fn approximate_of(s: &[u8], p: Places, x: u64, t: u64) -> u64
+fn approximate_of(s: &[u8], p: Places, x: u64, t: u64) -> RoundedSize
     requires { ⌜ (checkOf (now s) .number ≡ 0) × (p ≡ placesOf (now s)) × (x ≤ (rowsOf (now s) easting - 1) * stepOf easting) × (t ≤ (rowsOf (now s) latitude - 1) * stepOf latitude) ⌝ }
-    ensures { λ r. ⌜ (r ≡ approximateOf (now (s .entry)) x t) × (r ≤ 30_000_000) ⌝ }
+    ensures { λ r. ⌜ (r .value ≡ approximateOf (now (s .entry)) x t) × (r .value ≤ 30_000_000) × (r .half ≡ approximateLHalf x (hAt (now (s .entry)) t)) ⌝ }
 {
-    steps::approximate_l(x, tables::h_at(s, p, t)) * 1_000
+    let l = steps::approximate_l(x, tables::h_at(s, p, t).value);
+    RoundedSize {
+        value: l.value * 1_000,
+        half: l.half,
+    }
 }
 
 // The size of L there, in 0.001″.
-fn size_of(s: &[u8], p: Places, x: u64, t: u64, approximate: u64) -> i64
-    requires { ⌜ (checkOf (now s) .number ≡ 0) × (p ≡ placesOf (now s)) × (x ≤ (rowsOf (now s) easting - 1) * stepOf easting) × (t ≤ (rowsOf (now s) latitude - 1) * stepOf latitude) × (approximate ≡ approximateOf (now s) x t) × (sizeKnown (now s) (pos approximate) ≡ true) ⌝ }
-    ensures { λ r. ⌜ r ≡ sizeOf (now (s .entry)) x t ⌝ }
+fn size_of(s: &[u8], p: Places, x: u64, t: u64, approximate: RoundedSize) -> Rounded
+    requires { ⌜ (checkOf (now s) .number ≡ 0) × (p ≡ placesOf (now s)) × (x ≤ (rowsOf (now s) easting - 1) * stepOf easting) × (t ≤ (rowsOf (now s) latitude - 1) * stepOf latitude) × (approximate .value ≡ approximateOf (now s) x t) × (sizeKnown (now s) (pos (approximate .value)) ≡ true) × (approximate .half ≡ approximateLHalf x (hAt (now s) t)) ⌝ }
+    ensures { λ r. ⌜ (r .value ≡ sizeOf (now (s .entry)) x t) × (r .half ≡ sizeHalf (now (s .entry)) x t) ⌝ }
 {
     let h = tables::h_at(s, p, t);
     let a = tables::a_at(s, p, t);
-    let b = tables::b_at(s, p, approximate);
-    steps::size_of_l(x, a, b, h) as i64
+    let b = tables::b_at(s, p, approximate.value);
+    let l = steps::size_of_l(x, a.value, b.value, h.value);
+    Rounded {
+        value: l.value as i64,
+        half: h.half | a.half | approximate.half | b.half | l.half,
+    }
 }
 
 // The point on the earth, of x′, the latitude's distance t from row 0 and the size of L, which is within its table.
-fn geographic_at(s: &[u8], p: Places, xp: i64, t: u64, size: i64) -> Geographic
-    requires { ⌜ (checkOf (now s) .number ≡ 0) × (p ≡ placesOf (now s)) × (t ≤ (rowsOf (now s) latitude - 1) * stepOf latitude) × (size ≡ sizeOf (now s) (natAbs xp) t) × (sizeKnown (now s) size ≡ true) ⌝ }
-    ensures { λ r. ⌜ r ≡ geographicAt (now (s .entry)) xp t ⌝ }
+fn geographic_at(s: &[u8], p: Places, xp: i64, t: u64, size: Rounded, met: bool) -> Geographic
+    requires { ⌜ (checkOf (now s) .number ≡ 0) × (p ≡ placesOf (now s)) × (t ≤ (rowsOf (now s) latitude - 1) * stepOf latitude) × (size .value ≡ sizeOf (now s) (natAbs xp) t) × (sizeKnown (now s) (size .value) ≡ true) × (size .half ≡ sizeHalf (now s) (natAbs xp) t) ⌝ }
+    ensures { λ r. ⌜ r ≡ geographicAt (now (s .entry)) xp t met ⌝ }
 {
     Geographic {
         number: 0,
         latitude: (tables::first_latitude(s, p) + (t as i64)) as i32,
-        longitude: (tables::central_meridian(s, p) - figures::with_sign(xp, size)) as i32,
+        longitude: (tables::central_meridian(s, p) - figures::with_sign(xp, size.value)) as i32,
+        half: met | size.half,
     }
 }
 
-// 11, or the point on the earth, from x′ and the latitude's distance t from row 0.
-fn from_distance(s: &[u8], p: Places, xp: i64, t: u64) -> Geographic
+// 11, or the point on the earth, from x′ and the latitude's distance t from row 0. `met`, here and below: some rounding before met a half.
+fn from_distance(s: &[u8], p: Places, xp: i64, t: u64, met: bool) -> Geographic
     requires { ⌜ (checkOf (now s) .number ≡ 0) × (p ≡ placesOf (now s)) × (eastingKnown (now s) xp ≡ true) × (t ≤ (rowsOf (now s) latitude - 1) * stepOf latitude) ⌝ }
-    ensures { λ r. ⌜ r ≡ fromDistance (now (s .entry)) xp t ⌝ }
+    ensures { λ r. ⌜ r ≡ fromDistance (now (s .entry)) xp t met ⌝ }
 {
     let x = figures::size(xp);
     let approximate = approximate_of(s, p, x, t);
-    if !extent::size_known(s, p, approximate as i64) {
+    if !extent::size_known(s, p, approximate.value as i64) {
         return Geographic {
             number: 11,
             latitude: 0,
             longitude: 0,
+            half: false,
         };
     }
     let size = size_of(s, p, x, t, approximate);
-    if !extent::size_known(s, p, size) {
+    if !extent::size_known(s, p, size.value) {
         return Geographic {
             number: 11,
             latitude: 0,
             longitude: 0,
+            half: false,
         };
     }
-    geographic_at(s, p, xp, t, size)
+    geographic_at(s, p, xp, t, size, met)
 }
 
 // 14, 11, or the point on the earth, from x′ and the reduced northing.
-fn from_reduced(s: &[u8], p: Places, xp: i64, reduced: i64) -> Geographic
+fn from_reduced(s: &[u8], p: Places, xp: i64, reduced: i64, met: bool) -> Geographic
     requires { ⌜ (checkOf (now s) .number ≡ 0) × (p ≡ placesOf (now s)) × (eastingKnown (now s) xp ≡ true) × (natAbs reduced < 2 ^ 62) ⌝ }
-    ensures { λ r. ⌜ r ≡ fromReduced (now (s .entry)) xp reduced ⌝ }
+    ensures { λ r. ⌜ r ≡ fromReduced (now (s .entry)) xp reduced met ⌝ }
 {
     if !extent::reduced_known(s, p, reduced) {
         return Geographic {
             number: 14,
             latitude: 0,
             longitude: 0,
+            half: false,
         };
     }
-    from_distance(s, p, xp, distance_of(s, p, reduced))
+    let t = distance_of(s, p, reduced);
+    from_distance(s, p, xp, t.value, met | t.half)
 }
 
 // Plane to geographic: 12, 13, 14, 11, or latitude and longitude.
@@ -147,6 +176,7 @@ pub fn inverse(s: &[u8], p: Places, x: i32, y: i32) -> Geographic
             number: 12,
             latitude: 0,
             longitude: 0,
+            half: false,
         };
     }
     if !extent::northing_known(s, p, y) {
@@ -154,7 +184,9 @@ pub fn inverse(s: &[u8], p: Places, x: i32, y: i32) -> Geographic
             number: 13,
             latitude: 0,
             longitude: 0,
+            half: false,
         };
     }
-    from_reduced(s, p, xp, reduced_northing(s, p, figures::size(xp), y))
+    let reduced = reduced_northing(s, p, figures::size(xp), y);
+    from_reduced(s, p, xp, reduced.value, reduced.half)
 }

@@ -22,7 +22,7 @@ use Rattle.extent.proofs.Reach.{latitude-reach, longitude-reach, size-reach, sc
 use Rattle.forward.specs.declared.Plane.{Plane}
 use Rattle.inverse.specs.declared.Geographic.{Geographic}
 use Rattle.grid.specs.declared.Grid.{Grid}
-use Rattle.forward.specs.Forward.{noPlane, xOf, yOf, planeAt, forwardOf}
+use Rattle.forward.specs.Forward.{noPlane, xOf, yOf, planeAt, planeFrom, forwardOf}
 use Rattle.inverse.specs.Inverse.{noGeographic, approximateOf, sizeOf, longitudeOf, distanceOf, reducedNorthing, geographicAt, fromDistance, fromReduced, inverseOf}
 use Rattle.grid.specs.Grid.{noGrid, gridAt, gridOf}
 use Rattle.convert.specs.Conversions.{afterCheck, geographicToPlane, planeToGeographic, convergenceAndScale}
@@ -49,7 +49,7 @@ checked P number refuse carries s rest p q = pick (checkOf s .number) refl
 module _ (s : List ℕ) where
   -- ---- geographic to plane
   pub plane-fits : (north west : ℤ) → Fits32 (geographicToPlane s north west .x) × Fits32 (geographicToPlane s north west .y)
-  unfolding geographicToPlane forwardOf planeAt
+  unfolding geographicToPlane forwardOf planeAt planeFrom
   plane-fits north west =
       checked P (λ r. r .number) noPlane (λ n. refl) s (forwardOf s north west) (λ n. (lit≤ tt, lit≤ tt))
       (λ z. rungs P (latitudeKnown s north) (noPlane 10) _ (lit≤ tt, lit≤ tt)

@@ -1,7 +1,7 @@
 -- Reading at an offset by a pair of rows: row i, the last at or before the offset that has a next, and that next. The last row of all is a whole step past the one before it.
 -- Assumes nothing.
 use mathlib.Core.Path.{_≡_, sym, ap, _∙_}
-use mathlib.Core.Bool.{true}
+use mathlib.Core.Bool.{Bool, true}
 use mathlib.Core.List.{List}
 use Prim.Native.Nat.{ℕ, _+_, _*_, _-_, _/_, _%_, _<_, _≤_, min}
 use native.Mathlib.Nat.{mul-add, mul-one, add-mul, mul-le-mul-right, div-add-mod', mod-lt}
@@ -10,10 +10,10 @@ use native.Mathlib.Omega.{arith}
 use lib.IntN.{ℤ, pos}
 use lib.ListN.{length}
 use lib.Signed.{leZ}
-use Rattle.figures.specs.Between.{between}
-use Rattle.figures.proofs.Interval.{at-row, at-next}
+use Rattle.figures.specs.Between.{between, betweenHalf}
+use Rattle.figures.proofs.Interval.{at-row, at-next, no-half-at-row, no-half-at-next}
 use Rattle.words.specs.Words.{wordAt}
-use Rattle.reading.specs.Tables.{column, pastRow, valueAt}
+use Rattle.reading.specs.Tables.{column, pastRow, pastRowHalf, valueAt, valueHalf}
 use Rattle.reading.specs.Tables.{NotNegative}
 use Rattle.reading.proofs.Within.{this-there, next-within}
 
@@ -72,6 +72,16 @@ module _ (n step offset i : ℕ) (two : 2 ≤ n) (p : 0 < step) (h : offset ≤ 
       pick (no d) =
           let l : n - 2 < offset / step = omega arith in
           rw (step-past l, last-row l, no-rest l) (at-next (f i) (f (i + 1)) step p ∙ sym (at-row (f (i + 1)) (f (i + 1 + 1)) step p))
+
+  pub pair-half : (f : ℕ → ℤ) → pastRowHalf f i (offset - i * step) step ≡ valueHalf f step offset
+  unfolding valueHalf pastRowHalf
+  pair-half f = pick (decLe (offset / step) (n - 2))
+    where
+      pick : Dec (offset / step ≤ n - 2) → betweenHalf (f i) (f (i + 1)) (offset - i * step) step ≡ betweenHalf (f (offset / step)) (f (offset / step + 1)) (offset % step) step
+      pick (yes d) = rw (rest-past d, its-row d)
+      pick (no d) =
+          let l : n - 2 < offset / step = omega arith in
+          rw (step-past l, last-row l, no-rest l) (no-half-at-next (f i) (f (i + 1)) step p ∙ sym (no-half-at-row (f (i + 1)) (f (i + 1 + 1)) step p))
 
   -- its words lie in the body
   pub pair-within : (b : List ℕ) (w c : ℕ) → 4 * (w * n) ≤ length b → c < w → 4 * (w * i + c + w) + 4 ≤ length b

@@ -5,7 +5,7 @@ use mathlib.Core.List.{List}
 use Prim.Native.Nat.{ℕ, _+_, _-_, _*_, _/_, _%_, _<_}
 use lib.IntN.{ℤ, pos}
 use lib.Signed.{leZ}
-use Rattle.figures.specs.Between.{between}
+use Rattle.figures.specs.Between.{between, betweenHalf}
 use Rattle.words.specs.Words.{wordAt}
 
 -- The figure in row i of a column, for a body of so many words in a row. `number` is the column's; rows and columns count from 0.
@@ -17,10 +17,17 @@ column body width number i = wordAt body (width * i + number)
 unfoldable pub pastRow : (ℕ → ℤ) → ℕ → ℕ → ℕ → ℤ
 pastRow f i t step = between (f i) (f (i + 1)) t step
 
+unfoldable pub pastRowHalf : (ℕ → ℤ) → ℕ → ℕ → ℕ → Bool
+pastRowHalf f i t step = betweenHalf (f i) (f (i + 1)) t step
+
 -- The value at an offset from row 0, for a step above 0: the whole steps in it give the row, and the rest is t. "At the last row only t = 0 is used":
 -- the row after it, which is not there, then counts 0 times. An offset past the last row is for its user to refuse first.
 unfoldable pub valueAt : (ℕ → ℤ) → ℕ → ℕ → ℤ
 valueAt f step offset = pastRow f (offset / step) (offset % step) step
+
+-- Whether that met a half. At a row, the last one among them, it never does.
+unfoldable pub valueHalf : (ℕ → ℤ) → ℕ → ℕ → Bool
+valueHalf f step offset = pastRowHalf f (offset / step) (offset % step) step
 
 -- z, counted from row 0, lies from there to the last of so many rows, which stands a step past row 0 for each row after it. 10 and 13 refuse what is below or above, 11 and 12,
 -- which look at sizes, what is above.

@@ -1,4 +1,6 @@
-// Reading tables: a column's value at an offset.
+// Reading tables: a column's value at an offset, and whether it was rounded from a half.
+use figures::Rounded;
+use figures::RoundedSize;
 ghost use mathlib.Core.Path.{_≡_};
 ghost use mathlib.Core.Bool.{true};
 ghost use Prim.Native.Nat.{_+_, _-_, _*_, _<_, _≤_, min};
@@ -6,12 +8,12 @@ ghost use lib.ListN.{length};
 ghost use lib.IntN.{pos};
 ghost use lib.Signed.{leZ};
 ghost use Rattle.figures.specs.Ranges.{mostCount, mostStep};
-ghost use Rattle.reading.specs.Tables.{column, pastRow, valueAt, withinRows, NotNegative};
+ghost use Rattle.reading.specs.Tables.{column, pastRow, pastRowHalf, valueAt, valueHalf, withinRows, NotNegative};
 
 // The value of column c at t past row i, for a body of w words in a row. There is a next row, and t is up to the step.
-fn past_row(b: &[u8], w: usize, c: usize, i: usize, t: u64, step: u64) -> i64
+fn past_row(b: &[u8], w: usize, c: usize, i: usize, t: u64, step: u64) -> Rounded
     requires { ⌜ (4 * (w * i + c + w) + 4 ≤ length (now b)) × (t ≤ step) × (step ≤ mostStep) × (0 < step) ⌝ }
-    ensures { λ r. ⌜ r ≡ pastRow (column (now (b .entry)) w c) i t step ⌝ }
+    ensures { λ r. ⌜ (r .value ≡ pastRow (column (now (b .entry)) w c) i t step) × (r .half ≡ pastRowHalf (column (now (b .entry)) w c) i t step) ⌝ }
 {
     let at = w * i + c;
     figures::between(
@@ -23,9 +25,9 @@ fn past_row(b: &[u8], w: usize, c: usize, i: usize, t: u64, step: u64) -> i64
 }
 
 // The same where no figure of the column is negative: the words are read without a sign.
-fn size_past_row(b: &[u8], w: usize, c: usize, i: usize, t: u64, step: u64) -> u64
+fn size_past_row(b: &[u8], w: usize, c: usize, i: usize, t: u64, step: u64) -> RoundedSize
     requires { ⌜ (4 * (w * i + c + w) + 4 ≤ length (now b)) × (t ≤ step) × (step ≤ mostStep) × (0 < step) × (leZ (pos 0) (column (now b) w c i) ≡ true) × (leZ (pos 0) (column (now b) w c (i + 1)) ≡ true) ⌝ }
-    ensures { λ r. ⌜ pos r ≡ pastRow (column (now (b .entry)) w c) i t step ⌝ }
+    ensures { λ r. ⌜ (pos (r .value) ≡ pastRow (column (now (b .entry)) w c) i t step) × (r .half ≡ pastRowHalf (column (now (b .entry)) w c) i t step) ⌝ }
 {
     let at = w * i + c;
     let u = words::unsigned_word(b, at) as u64;
@@ -49,18 +51,18 @@ fn with_next(k: u64, n: usize) -> usize
 }
 
 // The value of column c of n rows at an offset from row 0. The last row is read as a whole step past the one before it, so that there is always a next.
-pub fn value_at(b: &[u8], w: usize, c: usize, n: usize, step: u64, offset: u64) -> i64
+pub fn value_at(b: &[u8], w: usize, c: usize, n: usize, step: u64, offset: u64) -> Rounded
     requires { ⌜ (2 ≤ n) × (4 * (w * n) ≤ length (now b)) × (c < w) × (0 < step) × (step ≤ mostStep) × (offset ≤ (n - 1) * step) ⌝ }
-    ensures { λ r. ⌜ r ≡ valueAt (column (now (b .entry)) w c) step offset ⌝ }
+    ensures { λ r. ⌜ (r .value ≡ valueAt (column (now (b .entry)) w c) step offset) × (r .half ≡ valueHalf (column (now (b .entry)) w c) step offset) ⌝ }
 {
     let i = with_next(offset / step, n);
     past_row(b, w, c, i, offset - (i as u64) * step, step)
 }
 
 // The same where no figure of the column is negative.
-pub fn size_at(b: &[u8], w: usize, c: usize, n: usize, step: u64, offset: u64) -> u64
+pub fn size_at(b: &[u8], w: usize, c: usize, n: usize, step: u64, offset: u64) -> RoundedSize
     requires { ⌜ (2 ≤ n) × (4 * (w * n) ≤ length (now b)) × (c < w) × (0 < step) × (step ≤ mostStep) × (offset ≤ (n - 1) * step) × NotNegative (column (now b) w c) n ⌝ }
-    ensures { λ r. ⌜ pos r ≡ valueAt (column (now (b .entry)) w c) step offset ⌝ }
+    ensures { λ r. ⌜ (pos (r .value) ≡ valueAt (column (now (b .entry)) w c) step offset) × (r .half ≡ valueHalf (column (now (b .entry)) w c) step offset) ⌝ }
 {
     let i = with_next(offset / step, n);
     size_past_row(b, w, c, i, offset - (i as u64) * step, step)

@@ -1,16 +1,17 @@
 -- A quotient by K·2h is rounded as the quotient by 2h is, once what is below K has been dropped toward zero: so a product that passes 64 bits is worked in parts.
 -- Assumes nothing.
 use mathlib.Core.Path.{_≡_, refl, sym, ap, subst, _∙_}
-use mathlib.Core.Bool.{true, false}
+use mathlib.Core.Bool.{Bool, true, false, _&&_}
 use Prim.Native.Nat.{ℕ, zero, suc, _+_, _*_, _-_, _/_, _%_, _<_, _≤_, zero-le}
-use native.Mathlib.Nat.{le-refl, le-suc, mul-le-mul-right, mul-pos, div-add-mod', mod-lt, mul-comm, mul-left-comm, add-mul, sub-zero, mul-div-cancel}
+use native.Mathlib.Nat.{le-refl, le-suc, mul-le-mul-right, mul-pos, div-add-mod', mod-lt, mul-comm, mul-left-comm, add-mul, sub-zero, mul-div-cancel, add-zero}
+use native.Mathlib.Decide.{ℕ-discrete}
 use native.Mathlib.Omega.{arith}
-use lib.Arith.{digits-div}
-use lib.Dec.{T}
-use borrow.Author.Tests.{le-leb}
+use lib.Arith.{digits-div, digits-mod, mod-mul}
+use lib.Dec.{T, eqb}
+use borrow.Author.Tests.{le-leb, eq-eqb, ne-eqb}
 use lib.IntN.{ℤ, pos, negsuc, negℤ, natAbs, _+ℤ_, _*ℤ_, +ℤ-one, negℤ-+ℤ, -ℤ-+ℤ-cancel}
 use lib.Signed.{leZ}
-use Rattle.figures.specs.Nearest.{withSign, nearestSize, nearest}
+use Rattle.figures.specs.Nearest.{withSign, nearestSize, nearest, onHalfSize, onHalf}
 use Rattle.steps.specs.Wide.{towardZero}
 use Rattle.figures.proofs.Ring.{swap-last, sum-times, times-assoc}
 use Rattle.figures.proofs.Sizes.{size-minus}
@@ -84,6 +85,65 @@ drop-low (negsuc n) e K h k j =
     ∙ sym (nearest-minus ((suc n * K - e) / K) (2 * h) (omega arith))
     ∙ ap (λ (x : ℤ). nearest x (2 * h)) (dropped n e K k)
 
+-- ---- it is a half where what is left is one and nothing was dropped
+and-false : (a : Bool) → (a && false) ≡ false
+and-false true = refl
+and-false false = refl
+
+none : (a : Bool) (e : ℕ) → (e ≡ 0 → ⊥) → (a && eqb e 0) ≡ false
+none a e h = ap (λ (b : Bool). a && b) (ne-eqb e 0 h) ∙ and-false a
+
+-- r·K + e, with e below K, is h·K where r is h and e is 0
+parts-half : (r e h K : ℕ) → e < K → eqb (2 * (r * K + e)) (K * (2 * h)) ≡ (eqb (2 * r) (2 * h) && eqb e 0)
+parts-half r e h K k = pick (ℕ-discrete e 0) (ℕ-discrete r h)
+  where
+    half : K * (2 * h) ≡ 2 * (h * K)
+    half = mul-left-comm K 2 h ∙ ap (λ (x : ℕ). 2 * x) (mul-comm K h)
+
+    -- both sides as digits to the base K
+    same-rest : r * K + e ≡ h * K → e ≡ 0
+    same-rest q = sym (digits-mod r k) ∙ ap (λ (x : ℕ). x % K) (q ∙ sym (add-zero (h * K))) ∙ digits-mod h (omega arith)
+
+    same-whole : r * K + e ≡ h * K → r ≡ h
+    same-whole q = sym (digits-div r k) ∙ ap (λ (x : ℕ). x / K) (q ∙ sym (add-zero (h * K))) ∙ digits-div h (omega arith)
+
+    pick : Dec (e ≡ 0) → Dec (r ≡ h) → eqb (2 * (r * K + e)) (K * (2 * h)) ≡ (eqb (2 * r) (2 * h) && eqb e 0)
+    pick (yes z) (yes q) =
+        eq-eqb (2 * (r * K + e)) (K * (2 * h)) (omega (arith, half, ap (λ (x : ℕ). x * K) q))
+        ∙ sym (rw (eq-eqb e 0 z, eq-eqb (2 * r) (2 * h) (omega arith)))
+    pick (yes z) (no q) =
+        ne-eqb (2 * (r * K + e)) (K * (2 * h)) (λ t. q (same-whole (omega (arith, half, t))))
+        ∙ sym (rw (ne-eqb (2 * r) (2 * h) (λ t. q (omega (arith, t)))))
+    pick (no z) q =
+        ne-eqb (2 * (r * K + e)) (K * (2 * h)) (λ t. z (same-rest (omega (arith, half, t))))
+        ∙ sym (none (eqb (2 * r) (2 * h)) e z)
+
+half-below : (n K h : ℕ) → 0 < K → 0 < h → onHalfSize n (K * (2 * h)) ≡ (onHalfSize (n / K) (2 * h) && eqb (n % K) 0)
+unfolding onHalfSize
+half-below n K h k j =
+    let parts : n % (K * (2 * h)) ≡ n / K % (2 * h) * K + n % K = ap (λ (x : ℕ). n % x) (mul-comm K (2 * h)) ∙ mod-mul n (omega arith) k in
+    ap (λ (x : ℕ). eqb (2 * x) (K * (2 * h))) parts ∙ parts-half (n / K % (2 * h)) (n % K) h K (mod-lt n k)
+
+-- of a signed number t·K + e, e from 0 to below K
+pub half-low : (t : ℤ) (e K h : ℕ) → e < K → 0 < h → onHalf (t *ℤ pos K +ℤ pos e) (K * (2 * h)) ≡ (onHalf (towardZero t e) (2 * h) && eqb e 0)
+unfolding onHalf towardZero
+half-low (pos n) e K h k j =
+    half-below (n * K + e) K h (omega arith) j ∙ rw (digits-div n k, digits-mod n k)
+half-low (negsuc n) zero K h k j =
+    ap (λ (x : ℤ). onHalfSize (natAbs x) (K * (2 * h))) (minus-plus (suc n * K) 0 zero-le)
+    ∙ ap (λ (x : ℕ). onHalfSize x (K * (2 * h))) (size-minus (pos (suc n * K - 0)) ∙ sub-zero (suc n * K) ∙ sym (add-zero (suc n * K)))
+    ∙ half-below (suc n * K + 0) K h k j
+    ∙ rw (digits-div (suc n) k, digits-mod (suc n) k)
+half-low (negsuc n) (suc e) K h k j =
+    let low : suc e ≤ suc n * K = omega (arith, mul-le-mul-right K (zero-le {n = n})) in
+    let rest : suc n * K - suc e ≡ n * K + (K - suc e) = omega arith in
+    let some : K - suc e < K = omega arith in
+    ap (λ (x : ℤ). onHalfSize (natAbs x) (K * (2 * h))) (minus-plus (suc n * K) (suc e) low)
+    ∙ ap (λ (x : ℕ). onHalfSize x (K * (2 * h))) (size-minus (pos (suc n * K - suc e)) ∙ rest)
+    ∙ half-below (n * K + (K - suc e)) K h (omega arith) j
+    ∙ none (onHalfSize ((n * K + (K - suc e)) / K) (2 * h)) ((n * K + (K - suc e)) % K) (λ z. omega (arith, digits-mod n some))
+    ∙ sym (none (onHalfSize (natAbs (negℤ (pos n))) (2 * h)) (suc e) (λ z. omega arith))
+
 -- ---- a wide product in parts
 -- p·n, with n split at K: both products of a part are small
 pub split : (p n K : ℕ) → p * n ≡ (p * (n / K) + p * (n % K) / K) * K + p * (n % K) % K
@@ -106,3 +166,14 @@ wide-nearest p n K h d k j =
     ap (λ (m : ℕ). nearest (pos m +ℤ d *ℤ pos (2 * h * K)) (K * (2 * h))) (split p n K)
     ∙ ap (λ (z : ℤ). nearest z (K * (2 * h))) (gather whole rest K (2 * h) d)
     ∙ drop-low (pos whole +ℤ d *ℤ pos (2 * h)) rest K h (mod-lt (p * (n % K)) k) j
+
+-- the same of its half
+pub wide-half : (p n K h : ℕ) (d : ℤ) → 0 < K → 0 < h
+    → onHalf (pos (p * n) +ℤ d *ℤ pos (2 * h * K)) (K * (2 * h))
+    ≡ (onHalf (towardZero (pos (p * (n / K) + p * (n % K) / K) +ℤ d *ℤ pos (2 * h)) (p * (n % K) % K)) (2 * h) && eqb (p * (n % K) % K) 0)
+wide-half p n K h d k j =
+    let whole = p * (n / K) + p * (n % K) / K in
+    let rest = p * (n % K) % K in
+    ap (λ (m : ℕ). onHalf (pos m +ℤ d *ℤ pos (2 * h * K)) (K * (2 * h))) (split p n K)
+    ∙ ap (λ (z : ℤ). onHalf z (K * (2 * h))) (gather whole rest K (2 * h) d)
+    ∙ half-low (pos whole +ℤ d *ℤ pos (2 * h)) rest K h (mod-lt (p * (n % K)) k) j

@@ -1,9 +1,10 @@
 -- The Survey's printed steps, one definition a step, over whole numbers in the sheet's and the point's units.
 -- A figure that cannot be negative is a ℕ, and so is a size that is given; a, b, c, d, a signed x′ and what they enter, the sizes of x′ and of L among it, are ℤ. Each step rounds
 -- once, by nearest.
+use mathlib.Core.Bool.{Bool}
 use Prim.Native.Nat.{ℕ, _*_}
 use lib.IntN.{ℤ, pos, _+ℤ_, _-ℤ_, _*ℤ_}
-use Rattle.figures.specs.Nearest.{nearestSize, nearest}
+use Rattle.figures.specs.Nearest.{nearestSize, nearest, onHalfSize, onHalf}
 
 -- ---- geographic to plane
 
@@ -11,38 +12,74 @@ use Rattle.figures.specs.Nearest.{nearestSize, nearest}
 unfoldable pub qOf : ℕ → ℕ
 qOf s = nearestSize (s * s) 10_000_000
 
+unfoldable pub qHalf : ℕ → Bool
+qHalf s = onHalfSize (s * s) 10_000_000
+
 -- "The size of x′ is the nearest hundredth of H·s + a·b": H in 0.000001, s, a, b in 0.001, the size in 0.01 ft. H·s has the unit 10⁻⁹, a·b 10⁻⁶.
+abbrev pub exactX : ℕ → ℕ → ℤ → ℤ → ℤ
+exactX h s a b = pos (h * s) +ℤ a *ℤ b *ℤ pos 1_000
+
 unfoldable pub sizeOfX : ℕ → ℕ → ℤ → ℤ → ℤ
-sizeOfX h s a b = nearest (pos (h * s) +ℤ a *ℤ b *ℤ pos 1_000) 10_000_000
+sizeOfX h s a b = nearest (exactX h s a b) 10_000_000
+
+unfoldable pub sizeOfXHalf : ℕ → ℕ → ℤ → ℤ → Bool
+sizeOfXHalf h s a b = onHalf (exactX h s a b) 10_000_000
 
 -- "nearest hundredth of (V·q + c)": V in 0.000001, q and c in 0.001, the rise in 0.01 ft. V·q has the unit 10⁻⁹.
+abbrev pub exactRise : ℕ → ℕ → ℤ → ℤ
+exactRise v q c = pos (v * q) +ℤ c *ℤ pos 1_000_000
+
 unfoldable pub rise : ℕ → ℕ → ℤ → ℤ
-rise v q c = nearest (pos (v * q) +ℤ c *ℤ pos 1_000_000) 10_000_000
+rise v q c = nearest (exactRise v q c) 10_000_000
+
+unfoldable pub riseHalf : ℕ → ℕ → ℤ → Bool
+riseHalf v q c = onHalf (exactRise v q c) 10_000_000
 
 -- ---- plane to geographic
 
 -- "nearest hundredth of (P(x′/10,000)² + d)": P in 0.00001, the size x of x′ and d in 0.01 ft, the answer in 0.01 ft. P times the square of x′/10,000 has the unit 10⁻¹⁷, d 10⁻².
+abbrev pub exactReduction : ℕ → ℕ → ℤ → ℤ
+exactReduction p x d = pos (p * (x * x)) +ℤ d *ℤ pos 1_000_000_000_000_000
+
 unfoldable pub reduction : ℕ → ℕ → ℤ → ℤ
-reduction p x d = nearest (pos (p * (x * x)) +ℤ d *ℤ pos 1_000_000_000_000_000) 1_000_000_000_000_000
+reduction p x d = nearest (exactReduction p x d) 1_000_000_000_000_000
+
+unfoldable pub reductionHalf : ℕ → ℕ → ℤ → Bool
+reductionHalf p x d = onHalf (exactReduction p x d) 1_000_000_000_000_000
 
 -- "seconds = 60(reduced − y0)/(y0 next − y0), to 0.001": span is the 60 in 0.001″, past is reduced − y0 and gap is y0 next − y0, both in 0.01 ft.
 -- It comes to the whole span where past is just short of the gap: what that means for the minute is the inverse's to say.
 unfoldable pub seconds : ℕ → ℕ → ℕ → ℕ
 seconds span past gap = nearestSize (span * past) gap
 
+unfoldable pub secondsHalf : ℕ → ℕ → ℕ → Bool
+secondsHalf span past gap = onHalfSize (span * past) gap
+
 -- "Approximate L = |x′|/H to a whole second": the size x of x′ in 0.01 ft, H in 0.000001.
 unfoldable pub approximateL : ℕ → ℕ → ℕ
 approximateL x h = nearestSize (x * 10_000) h
 
+unfoldable pub approximateLHalf : ℕ → ℕ → Bool
+approximateLHalf x h = onHalfSize (x * 10_000) h
+
 -- "The size of L is (|x′| − a·b)/H to 0.001": the size x of x′ in 0.01 ft, a and b in 0.001, H in 0.000001, the size in 0.001″.
+abbrev pub exactL : ℕ → ℤ → ℤ → ℤ
+exactL x a b = (pos (x * 10_000) -ℤ a *ℤ b) *ℤ pos 1_000
+
 unfoldable pub sizeOfL : ℕ → ℤ → ℤ → ℕ → ℤ
-sizeOfL x a b h = nearest ((pos (x * 10_000) -ℤ a *ℤ b) *ℤ pos 1_000) h
+sizeOfL x a b h = nearest (exactL x a b) h
+
+unfoldable pub sizeOfLHalf : ℕ → ℤ → ℤ → ℕ → Bool
+sizeOfLHalf x a b h = onHalf (exactL x a b) h
 
 -- ---- convergence
 
 -- "Δα = M·x′ to 0.1″": M in 10⁻⁷, x′ in 0.01 ft, Δα in 0.1″. M·x′ has the unit 10⁻⁹.
 unfoldable pub convergence : ℕ → ℤ → ℤ
 convergence m x = nearest (pos m *ℤ x) 100_000_000
+
+unfoldable pub convergenceHalf : ℕ → ℤ → Bool
+convergenceHalf m x = onHalf (pos m *ℤ x) 100_000_000
 
 -- ---- a sheet's per-second columns
 

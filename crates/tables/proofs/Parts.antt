@@ -1,20 +1,18 @@
 -- A kind's body as it is lent to those who read it: the part of the sheet that the contents say, with every word that a row or a value between rows asks for.
 -- Assumes nothing.
 use mathlib.Core.Path.{_≡_, sym, ap, _∙_}
-use mathlib.Core.Bool.{true}
+use mathlib.Core.Bool.{Bool, true}
 use mathlib.Core.List.{List}
-use Prim.Native.Nat.{ℕ, _+_, _*_, _-_, _^_, _<_, _≤_}
+use Prim.Native.Nat.{ℕ, _+_, _*_, _-_, _<_, _≤_}
 use native.Mathlib.Nat.{mul-comm, le-trans, le-of-lt}
-use borrow.Author.Needs.{sfits-of}
-use mir.Facts.{toZ-ofZ}
 use Rattle.figures.proofs.Holds.{held-size}
 use native.Mathlib.Omega.{arith}
 use lib.Dec.{lit≤}
 use lib.IntN.{ℤ, pos}
 use lib.ListN.{length, take, drop, length-take, length-drop}
 use mir.Syntax.{w64}
-use mir.Val.{Fits, toZ, ofZ}
-use lib.Signed.{mag, leZ}
+use mir.Val.{Fits, toZ}
+use lib.Signed.{leZ}
 use Rattle.figures.specs.Ranges.{mostStep}
 use Rattle.words.specs.Words.{unsignedAt, wordAt}
 use Rattle.words.proofs.PartWords.{part-is}
@@ -27,11 +25,11 @@ use Rattle.entries.proofs.ByKind.{by-kind}
 use Rattle.bodies.specs.Check.{checkOf}
 use Rattle.bodies.proofs.Sound.{passes-sound}
 use Rattle.bodies.proofs.Parts.{part-rows}
-use Rattle.reading.specs.Tables.{column, valueAt}
+use Rattle.reading.specs.Tables.{column, valueAt, valueHalf}
 use Rattle.reading.specs.Tables.{NotNegative}
 use Rattle.reading.proofs.Within.{row-within}
 use Rattle.reading.proofs.Unsigned.{word-size}
-use Rattle.tables.specs.Figures.{figureOf, figureAt}
+use Rattle.tables.specs.Figures.{figureOf, figureAt, figureHalf}
 
 -- a sheet that passes has contents that pass
 pub contents-none : (s : List ℕ) → checkOf s .number ≡ 0 → contentsOf s .number ≡ 0
@@ -120,9 +118,11 @@ module _ (s : List ℕ) (kind : ℕ) (z : checkOf s .number ≡ 0) (l : 1 ≤ ki
         lent-value = rw (lent-is, st)
 
         -- and what it gives
-        pub value-is : (r : ℤ) → mag r < 2 ^ 63 → r ≡ valueAt (column (cut s (p .start) (p .rows * width)) width number) step offset
-            → toZ w64 (ofZ w64 r) ≡ figureAt s kind number offset
-        value-is r ok q = toZ-ofZ (sfits-of ok) ∙ q ∙ lent-value
+        pub value-is : (r : ℤ) → r ≡ valueAt (column (cut s (p .start) (p .rows * width)) width number) step offset → r ≡ figureAt s kind number offset
+        value-is r q = q ∙ lent-value
 
         pub size-is : (r : ℕ) → pos r ≡ valueAt (column (cut s (p .start) (p .rows * width)) width number) step offset → pos r ≡ figureAt s kind number offset
         size-is r q = q ∙ lent-value
+
+        pub half-is : (h : Bool) → h ≡ valueHalf (column (cut s (p .start) (p .rows * width)) width number) step offset → h ≡ figureHalf s kind number offset
+        half-is h q = q ∙ rw (lent-is, st)

@@ -1,11 +1,12 @@
 -- A sheet's figures by name, at its rows and between them. s is the sheet.
 -- H, V, P and M enter the steps as sizes, ℕ: their ranges keep them from being negative. The others are ℤ. Columns count from 0, in the order of the table of kinds.
+use mathlib.Core.Bool.{Bool}
 use mathlib.Core.List.{List}
 use Prim.Native.Nat.{ℕ}
 use lib.IntN.{ℤ, pos, natAbs, _*ℤ_}
 use Rattle.entries.specs.Layout.{zone, latitude, longitude, northing, easting, scale, widthOf, stepOf}
 use Rattle.entries.specs.Entries.{bodyOf}
-use Rattle.reading.specs.Tables.{column, valueAt}
+use Rattle.reading.specs.Tables.{column, valueAt, valueHalf}
 
 -- The figure in row i of a column of the kind.
 abbrev pub figureOf : List ℕ → ℕ → ℕ → ℕ → ℤ
@@ -14,6 +15,10 @@ figureOf s kind number i = column (bodyOf s kind) (widthOf kind) number i
 -- The figure of a column of the kind at an offset from row 0, by "Rounding and reading between rows" with the kind's step.
 abbrev pub figureAt : List ℕ → ℕ → ℕ → ℕ → ℤ
 figureAt s kind number offset = valueAt (column (bodyOf s kind) (widthOf kind) number) (stepOf kind) offset
+
+-- Whether it was rounded from a half. Each figure between rows has its own such name below.
+abbrev pub figureHalf : List ℕ → ℕ → ℕ → ℕ → Bool
+figureHalf s kind number offset = valueHalf (column (bodyOf s kind) (widthOf kind) number) (stepOf kind) offset
 
 -- ---- zone: "central meridian (0.001″); false easting C (0.01 ft)"
 unfoldable pub centralMeridian : List ℕ → ℤ
@@ -35,32 +40,62 @@ y0Of s i = figureOf s latitude 1 i
 unfoldable pub y0At : List ℕ → ℕ → ℤ
 y0At s t = figureAt s latitude 1 t
 
+unfoldable pub y0Half : List ℕ → ℕ → Bool
+y0Half s t = figureHalf s latitude 1 t
+
 unfoldable pub hAt : List ℕ → ℕ → ℕ
 hAt s t = natAbs (figureAt s latitude 3 t)
+
+unfoldable pub hHalf : List ℕ → ℕ → Bool
+hHalf s t = figureHalf s latitude 3 t
 
 unfoldable pub vAt : List ℕ → ℕ → ℕ
 vAt s t = natAbs (figureAt s latitude 5 t)
 
+unfoldable pub vHalf : List ℕ → ℕ → Bool
+vHalf s t = figureHalf s latitude 5 t
+
 unfoldable pub aAt : List ℕ → ℕ → ℤ
 aAt s t = figureAt s latitude 7 t
+
+unfoldable pub aHalf : List ℕ → ℕ → Bool
+aHalf s t = figureHalf s latitude 7 t
 
 -- ---- longitude: "b (0.001); c (0.001)", at a size of L in 0.001″
 unfoldable pub bAt : List ℕ → ℕ → ℤ
 bAt s size = figureAt s longitude 0 size
 
+unfoldable pub bHalf : List ℕ → ℕ → Bool
+bHalf s size = figureHalf s longitude 0 size
+
 unfoldable pub cAt : List ℕ → ℕ → ℤ
 cAt s size = figureAt s longitude 1 size
+
+unfoldable pub cHalf : List ℕ → ℕ → Bool
+cHalf s size = figureHalf s longitude 1 size
 
 -- ---- northing: "P (0.00001); M (10⁻⁷)", at y in 0.01 ft
 unfoldable pub pAt : List ℕ → ℕ → ℕ
 pAt s y = natAbs (figureAt s northing 0 y)
 
+unfoldable pub pHalf : List ℕ → ℕ → Bool
+pHalf s y = figureHalf s northing 0 y
+
 unfoldable pub mAt : List ℕ → ℕ → ℕ
 mAt s y = natAbs (figureAt s northing 1 y)
+
+unfoldable pub mHalf : List ℕ → ℕ → Bool
+mHalf s y = figureHalf s northing 1 y
 
 -- ---- easting: "d (0.01 ft)", and scale: "k (10⁻⁷)", at a size of x′ in 0.01 ft
 unfoldable pub dAt : List ℕ → ℕ → ℤ
 dAt s size = figureAt s easting 0 size
 
+unfoldable pub dHalf : List ℕ → ℕ → Bool
+dHalf s size = figureHalf s easting 0 size
+
 unfoldable pub kAt : List ℕ → ℕ → ℤ
 kAt s size = figureAt s scale 0 size
+
+unfoldable pub kHalf : List ℕ → ℕ → Bool
+kHalf s size = figureHalf s scale 0 size

@@ -1,6 +1,8 @@
 // The figures of a sheet that passes the check, by name: at its rows and between them. The sheet goes with its places, which are worked once.
 use entries::Place;
 use entries::Places;
+use figures::Rounded;
+use figures::RoundedSize;
 ghost use mathlib.Core.Path.{_≡_};
 ghost use mathlib.Core.Bool.{true};
 ghost use Prim.Native.Nat.{_+_, _-_, _*_, _^_, _<_, _≤_};
@@ -12,7 +14,7 @@ ghost use Rattle.entries.specs.Entries.{rowsOf, placeOf, placesOf};
 ghost use Rattle.bodies.specs.Check.{checkOf};
 ghost use Rattle.reading.specs.Tables.{NotNegative};
 ghost use Rattle.row_search.specs.Rows.{lastNotAbove};
-ghost use Rattle.tables.specs.Figures.{figureOf, figureAt, centralMeridian, falseEasting, firstLatitude, y0Of, y0At, hAt, vAt, aAt, bAt, cAt, pAt, mAt, dAt, kAt};
+ghost use Rattle.tables.specs.Figures.{figureOf, figureAt, figureHalf, centralMeridian, falseEasting, firstLatitude, y0Of, y0At, y0Half, hAt, hHalf, vAt, vHalf, aAt, aHalf, bAt, bHalf, cAt, cHalf, pAt, pHalf, mAt, mHalf, dAt, dHalf, kAt, kHalf};
 
 // The figure in row i of a column of the kind, where it is not negative. The body is lent on as the part of the sheet that holds it.
 fn figure_of(s: &[u8], place: Place, kind: usize, number: usize, i: usize) -> i64
@@ -27,9 +29,9 @@ fn figure_of(s: &[u8], place: Place, kind: usize, number: usize, i: usize) -> i6
 }
 
 // The figure of a column of the kind at an offset from row 0.
-fn figure_at(s: &[u8], place: Place, kind: usize, number: usize, offset: u64) -> i64
+fn figure_at(s: &[u8], place: Place, kind: usize, number: usize, offset: u64) -> Rounded
     requires { ⌜ (checkOf (now s) .number ≡ 0) × (place ≡ placeOf (now s) kind) × (1 ≤ kind) × (kind ≤ lastKind) × (0 < stepOf kind) × (number < widthOf kind) × (offset ≤ (rowsOf (now s) kind - 1) * stepOf kind) ⌝ }
-    ensures { λ r. ⌜ r ≡ figureAt (now (s .entry)) kind number offset ⌝ }
+    ensures { λ r. ⌜ (r .value ≡ figureAt (now (s .entry)) kind number offset) × (r .half ≡ figureHalf (now (s .entry)) kind number offset) ⌝ }
 {
     let w = entries::width_of(kind);
     let a = 4 * place.start;
@@ -45,9 +47,9 @@ fn figure_at(s: &[u8], place: Place, kind: usize, number: usize, offset: u64) ->
 }
 
 // The same of a column in which no figure is negative.
-fn size_at(s: &[u8], place: Place, kind: usize, number: usize, offset: u64) -> u64
+fn size_at(s: &[u8], place: Place, kind: usize, number: usize, offset: u64) -> RoundedSize
     requires { ⌜ (checkOf (now s) .number ≡ 0) × (place ≡ placeOf (now s) kind) × (1 ≤ kind) × (kind ≤ lastKind) × (0 < stepOf kind) × (number < widthOf kind) × (offset ≤ (rowsOf (now s) kind - 1) * stepOf kind) × NotNegative (figureOf (now s) kind number) (rowsOf (now s) kind) ⌝ }
-    ensures { λ r. ⌜ pos r ≡ figureAt (now (s .entry)) kind number offset ⌝ }
+    ensures { λ r. ⌜ (pos (r .value) ≡ figureAt (now (s .entry)) kind number offset) × (r .half ≡ figureHalf (now (s .entry)) kind number offset) ⌝ }
 {
     let w = entries::width_of(kind);
     let a = 4 * place.start;
@@ -107,81 +109,89 @@ pub fn row_of(s: &[u8], place: Place, z: i64) -> usize
 }
 
 // y0 at t from row 0, in 0.01 ft.
-pub fn y0_at(s: &[u8], p: Places, t: u64) -> i64
+pub fn y0_at(s: &[u8], p: Places, t: u64) -> Rounded
     requires { ⌜ (checkOf (now s) .number ≡ 0) × (p ≡ placesOf (now s)) × (t ≤ (rowsOf (now s) latitude - 1) * stepOf latitude) ⌝ }
-    ensures { λ r. ⌜ (r ≡ y0At (now (s .entry)) t) × (natAbs r ≤ 999_999_999) ⌝ }
+    ensures { λ r. ⌜ (r .value ≡ y0At (now (s .entry)) t) × (natAbs (r .value) ≤ 999_999_999) × (r .half ≡ y0Half (now (s .entry)) t) ⌝ }
 {
-    size_at(s, p.latitude, entries::LATITUDE, 1, t) as i64
+    let r = size_at(s, p.latitude, entries::LATITUDE, 1, t);
+    Rounded {
+        value: r.value as i64,
+        half: r.half,
+    }
 }
 
 // H at t from row 0, in 0.000001.
-pub fn h_at(s: &[u8], p: Places, t: u64) -> u64
+pub fn h_at(s: &[u8], p: Places, t: u64) -> RoundedSize
     requires { ⌜ (checkOf (now s) .number ≡ 0) × (p ≡ placesOf (now s)) × (t ≤ (rowsOf (now s) latitude - 1) * stepOf latitude) ⌝ }
-    ensures { λ r. ⌜ (r ≡ hAt (now (s .entry)) t) × (30_000_000 ≤ r) × (r ≤ mostH) ⌝ }
+    ensures { λ r. ⌜ (r .value ≡ hAt (now (s .entry)) t) × (30_000_000 ≤ r .value) × (r .value ≤ mostH) × (r .half ≡ hHalf (now (s .entry)) t) ⌝ }
 {
     size_at(s, p.latitude, entries::LATITUDE, 3, t)
 }
 
 // V at t from row 0, in 0.000001.
-pub fn v_at(s: &[u8], p: Places, t: u64) -> u64
+pub fn v_at(s: &[u8], p: Places, t: u64) -> RoundedSize
     requires { ⌜ (checkOf (now s) .number ≡ 0) × (p ≡ placesOf (now s)) × (t ≤ (rowsOf (now s) latitude - 1) * stepOf latitude) ⌝ }
-    ensures { λ r. ⌜ (r ≡ vAt (now (s .entry)) t) × (r ≤ mostV) ⌝ }
+    ensures { λ r. ⌜ (r .value ≡ vAt (now (s .entry)) t) × (r .value ≤ mostV) × (r .half ≡ vHalf (now (s .entry)) t) ⌝ }
 {
     size_at(s, p.latitude, entries::LATITUDE, 5, t)
 }
 
 // a at t from row 0, in 0.001.
-pub fn a_at(s: &[u8], p: Places, t: u64) -> i64
+pub fn a_at(s: &[u8], p: Places, t: u64) -> Rounded
     requires { ⌜ (checkOf (now s) .number ≡ 0) × (p ≡ placesOf (now s)) × (t ≤ (rowsOf (now s) latitude - 1) * stepOf latitude) ⌝ }
-    ensures { λ r. ⌜ (r ≡ aAt (now (s .entry)) t) × (natAbs r ≤ mostA) ⌝ }
+    ensures { λ r. ⌜ (r .value ≡ aAt (now (s .entry)) t) × (natAbs (r .value) ≤ mostA) × (r .half ≡ aHalf (now (s .entry)) t) ⌝ }
 {
     figure_at(s, p.latitude, entries::LATITUDE, 7, t)
 }
 
 // b at a size of L, in 0.001.
-pub fn b_at(s: &[u8], p: Places, size: u64) -> i64
+pub fn b_at(s: &[u8], p: Places, size: u64) -> Rounded
     requires { ⌜ (checkOf (now s) .number ≡ 0) × (p ≡ placesOf (now s)) × (size ≤ (rowsOf (now s) longitude - 1) * stepOf longitude) ⌝ }
-    ensures { λ r. ⌜ (r ≡ bAt (now (s .entry)) size) × (natAbs r ≤ mostB) ⌝ }
+    ensures { λ r. ⌜ (r .value ≡ bAt (now (s .entry)) size) × (natAbs (r .value) ≤ mostB) × (r .half ≡ bHalf (now (s .entry)) size) ⌝ }
 {
     figure_at(s, p.longitude, entries::LONGITUDE, 0, size)
 }
 
 // c at a size of L, in 0.001 ft.
-pub fn c_at(s: &[u8], p: Places, size: u64) -> i64
+pub fn c_at(s: &[u8], p: Places, size: u64) -> Rounded
     requires { ⌜ (checkOf (now s) .number ≡ 0) × (p ≡ placesOf (now s)) × (size ≤ (rowsOf (now s) longitude - 1) * stepOf longitude) ⌝ }
-    ensures { λ r. ⌜ (r ≡ cAt (now (s .entry)) size) × (natAbs r ≤ mostC) ⌝ }
+    ensures { λ r. ⌜ (r .value ≡ cAt (now (s .entry)) size) × (natAbs (r .value) ≤ mostC) × (r .half ≡ cHalf (now (s .entry)) size) ⌝ }
 {
     figure_at(s, p.longitude, entries::LONGITUDE, 1, size)
 }
 
 // P at y, in 0.00001.
-pub fn p_at(s: &[u8], p: Places, y: u64) -> u64
+pub fn p_at(s: &[u8], p: Places, y: u64) -> RoundedSize
     requires { ⌜ (checkOf (now s) .number ≡ 0) × (p ≡ placesOf (now s)) × (y ≤ (rowsOf (now s) northing - 1) * stepOf northing) ⌝ }
-    ensures { λ r. ⌜ (r ≡ pAt (now (s .entry)) y) × (r ≤ mostP) ⌝ }
+    ensures { λ r. ⌜ (r .value ≡ pAt (now (s .entry)) y) × (r .value ≤ mostP) × (r .half ≡ pHalf (now (s .entry)) y) ⌝ }
 {
     size_at(s, p.northing, entries::NORTHING, 0, y)
 }
 
 // M at y, in 10⁻⁷.
-pub fn m_at(s: &[u8], p: Places, y: u64) -> u64
+pub fn m_at(s: &[u8], p: Places, y: u64) -> RoundedSize
     requires { ⌜ (checkOf (now s) .number ≡ 0) × (p ≡ placesOf (now s)) × (y ≤ (rowsOf (now s) northing - 1) * stepOf northing) ⌝ }
-    ensures { λ r. ⌜ (r ≡ mAt (now (s .entry)) y) × (r ≤ mostM) ⌝ }
+    ensures { λ r. ⌜ (r .value ≡ mAt (now (s .entry)) y) × (r .value ≤ mostM) × (r .half ≡ mHalf (now (s .entry)) y) ⌝ }
 {
     size_at(s, p.northing, entries::NORTHING, 1, y)
 }
 
 // d at a size of x′, in 0.01 ft.
-pub fn d_at(s: &[u8], p: Places, size: u64) -> i64
+pub fn d_at(s: &[u8], p: Places, size: u64) -> Rounded
     requires { ⌜ (checkOf (now s) .number ≡ 0) × (p ≡ placesOf (now s)) × (size ≤ (rowsOf (now s) easting - 1) * stepOf easting) ⌝ }
-    ensures { λ r. ⌜ (r ≡ dAt (now (s .entry)) size) × (natAbs r ≤ mostD) ⌝ }
+    ensures { λ r. ⌜ (r .value ≡ dAt (now (s .entry)) size) × (natAbs (r .value) ≤ mostD) × (r .half ≡ dHalf (now (s .entry)) size) ⌝ }
 {
     figure_at(s, p.easting, entries::EASTING, 0, size)
 }
 
 // k at a size of x′, in 10⁻⁷.
-pub fn k_at(s: &[u8], p: Places, size: u64) -> i64
+pub fn k_at(s: &[u8], p: Places, size: u64) -> Rounded
     requires { ⌜ (checkOf (now s) .number ≡ 0) × (p ≡ placesOf (now s)) × (size ≤ (rowsOf (now s) scale - 1) * stepOf scale) ⌝ }
-    ensures { λ r. ⌜ (r ≡ kAt (now (s .entry)) size) × (natAbs r ≤ 10_010_000) ⌝ }
+    ensures { λ r. ⌜ (r .value ≡ kAt (now (s .entry)) size) × (natAbs (r .value) ≤ 10_010_000) × (r .half ≡ kHalf (now (s .entry)) size) ⌝ }
 {
-    size_at(s, p.scale, entries::SCALE, 0, size) as i64
+    let r = size_at(s, p.scale, entries::SCALE, 0, size);
+    Rounded {
+        value: r.value as i64,
+        half: r.half,
+    }
 }

@@ -96,7 +96,7 @@ fn may_move_earth(s: &[u8], p: Places, r: usize, x: i32, y: i32) -> bool
     if !extent::northing_known(s, p, y) {
         return false;
     }
-    let reduced = inverse::reduced_northing(s, p, figures::size(xp), y);
+    let reduced = inverse::reduced_northing(s, p, figures::size(xp), y).value;
     above_prior(s, p, r, reduced) & below_next(s, p, r, reduced)
 }
 

@@ -8,20 +8,20 @@ use Rattle.door.proofs.answer_of.Statement.{statement}
 use Rattle.door.proofs.answer_of.Tie as tie
 
 returns : tie.Need-returns
-returns c = refuses _ _ _ (c .if1 .taken)
+returns c = refuses _ _ _ _ (c .if1 .taken)
 
 returns-2 : tie.Need-returns-2
 returns-2 c =
     let start = c .before .before .before in
     let one : toZ w32 (ofZ w32 (start .args .a)) ≡ start .args .a = search needs in
     let two : toZ w32 (ofZ w32 (start .args .b)) ≡ start .args .b = search needs in
-    rw (one, two) (answers _ _ _ (c .before .before .if1 .left))
-
-int-to-float-t5 : tie.Need-int-to-float-t5
-int-to-float-t5 c = search needs
+    rw (one, two) (answers _ _ _ _ (c .before .before .if1 .left))
 
 int-to-float-t6 : tie.Need-int-to-float-t6
 int-to-float-t6 c = search needs
 
+int-to-float-t7 : tie.Need-int-to-float-t7
+int-to-float-t7 c = search needs
+
 pub answer-of-spec : {M : Type 1} → statement M
-answer-of-spec = tie.close (tie.spec returns int-to-float-t5 int-to-float-t6 returns-2)
+answer-of-spec = tie.close (tie.spec returns int-to-float-t6 int-to-float-t7 returns-2)

@@ -24,7 +24,7 @@ returns-2 c =
     let b-is : toZ w32 (ofZ w32 b) ≡ b = search needs in
     let one : toZ w32 (ofZ w32 (r .convergence)) ≡ r .convergence = search needs in
     let two : toZ w32 (ofZ w32 (r .scale)) ≡ r .scale = search needs in
-    let told = c .answer-of .ensures ∙ both-same (answerOf _) one two in
+    let told = c .answer-of .ensures ∙ both-same (λ a b. answerOf (r .number) a b (r .half)) one two in
     after (convergenceAndScale _) gridAnswer _ _ (sym (pair .before .before .counts-of .ensures) ∙ pair .x .given .1) a-is b-is (worked .convergence-and-scale .ensures) told
 
 counts-of-requires : tie.Need-counts-of-requires

@@ -2,8 +2,10 @@
 use mathlib.Core.Path.{_∙_}
 use native.Mathlib.Omega.{arith}
 use borrow.Author.Needs.{needs}
+use Rattle.figures.specs.Between.{between, betweenHalf}
 use Rattle.figures.proofs.Rounding.{rounded}
-use Rattle.figures.proofs.Raised.{first-fits, second-fits, weighed-fits, weighed-signed, less-raise, less-raise-fits, less-raise-most, between-raised}
+use Rattle.figures.proofs.Halves.{marked}
+use Rattle.figures.proofs.Raised.{first-fits, second-fits, weighed-fits, weighed-signed, less-raise, less-raise-fits, less-raise-most, exact-raised}
 use Rattle.figures.proofs.between.Statement.{statement}
 use Rattle.figures.proofs.between.Tie as tie
 
@@ -35,11 +37,13 @@ nearest-requires : tie.Need-nearest-requires
 nearest-requires c κs = (search less-raise-most, c .pre .4, omega arith)
 
 returns : tie.Need-returns
+unfolding between betweenHalf
 returns c =
     let a = c .before .args in
     let p = c .before .pre in
-    rounded (a .step) (less-raise _ _ _ _ (p .0) (p .1) (p .2) (p .3)) (c .nearest .ok) (c .nearest .ensures)
-    ∙ between-raised (a .t) (a .step) (p .2) (a .u) (a .w)
+    let sum = less-raise _ _ _ _ (p .0) (p .1) (p .2) (p .3) in
+    let exact = exact-raised (a .t) (a .step) (p .2) (a .u) (a .w) in
+    (rounded (a .step) sum (c .nearest .ensures .0) ∙ rw exact, marked (a .step) sum (c .nearest .ensures .1) ∙ rw exact)
 
 pub between-spec : {M : Type 1} → statement M
 between-spec =

@@ -5,7 +5,7 @@ use lib.IntN.{pos, natAbs}
 use mir.Syntax.{w64}
 use mir.Facts.{toZ-ofZ}
 use borrow.Author.Needs.{sfits-of}
-use Rattle.figures.specs.Nearest.{nearest}
+use Rattle.figures.specs.Nearest.{nearest, onHalf}
 use Rattle.figures.specs.Ranges.{mostNumerator}
 use Rattle.figures.proofs.Holds.{Holds, held, held-size, size-below}
 use Rattle.figures.proofs.Rounding.{nearestSize-le}
@@ -16,11 +16,11 @@ use Rattle.figures.proofs.nearest.Tie as tie
 size-is : (c : tie.After-size) → c .size .result ≡ natAbs (c .before .args .n)
 size-is c = rw (toZ-ofZ (c .before .fits .n)) at (c .size .ensures)
 
-quotient : (c : tie.After-nearest-size) → Holds w64 (c .nearest-size .result) (pos (c .nearest-size .result)) mostNumerator
+quotient : (c : tie.After-nearest-size) → Holds w64 (c .nearest-size .result .value) (pos (c .nearest-size .result .value)) mostNumerator
 quotient c =
     let n = c .before .size .result in
     held-size w64
-    (omega (arith, c .nearest-size .ensures, size-is (c .before), nearestSize-le n (c .before .before .args .d) (c .before .before .pre .1)))
+    (omega (arith, c .nearest-size .ensures .0, size-is (c .before), nearestSize-le n (c .before .before .args .d) (c .before .before .pre .1)))
     tt
 
 size-requires : tie.Need-size-requires
@@ -30,20 +30,19 @@ nearest-size-requires : tie.Need-nearest-size-requires
 nearest-size-requires c κs = (omega (arith, size-is c), omega arith, omega arith)
 
 cast-with-sign : tie.Need-cast-with-sign
-cast-with-sign c = omega (arith, quotient c .size)
+cast-with-sign c = omega (arith, quotient (c .before) .size)
 
 with-sign-requires : tie.Need-with-sign-requires
-with-sign-requires c κs = size-below (quotient c) tt
+with-sign-requires c κs = size-below (quotient (c .before)) tt
 
 returns : tie.Need-returns
-unfolding nearest
+unfolding nearest onHalf
 returns c =
-    let n = c .before .before .before in
-    cc (
-      toZ-ofZ (sfits-of (c .with-sign .ok)),
-      rw (toZ-ofZ (n .fits .n), quotient (c .before) .is) at (c .with-sign .ensures),
-      size-is (c .before .before),
-      c .before .nearest-size .ensures,
+    let worked = c .before .before in
+    let start = worked .before .before in
+    let whole = rw (toZ-ofZ (start .fits .n), quotient worked .is) at (c .with-sign .ensures) in (
+      cc (toZ-ofZ (sfits-of (c .with-sign .ok)), whole, size-is (worked .before), worked .nearest-size .ensures .0),
+      cc (size-is (worked .before), worked .nearest-size .ensures .1),
     )
 
 pub nearest-spec : {M : Type 1} → statement M

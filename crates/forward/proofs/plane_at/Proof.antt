@@ -7,7 +7,8 @@ use mir.Syntax.{w32, w64}
 use mir.Val.{toZ, ofZ}
 use Rattle.entries.specs.Layout.{longitude, stepOf}
 use Rattle.entries.specs.Entries.{rowsOf}
-use Rattle.tables.specs.Figures.{bAt}
+use Rattle.tables.specs.Figures.{bAt, bHalf}
+use Rattle.figures.proofs.Holds.{Holds, cast, cast-fits}
 use Rattle.tables.proofs.Answers.{size-is, size-fits}
 use Rattle.extent.specs.Extent.{fromFirst, lOf}
 use Rattle.extent.proofs.Reach.{latitude-reach, latitude-small, longitude-reach}
@@ -28,14 +29,29 @@ l-is c =
     let west : toZ w32 (ofZ w32 (c .before .before .before .args .longitude)) ≡ c .before .before .before .args .longitude = search needs in
     bits-is (c .l-of .ok) ∙ c .l-of .ensures .0 ∙ ap (lOf _) west
 
+-- x and y, as they were worked
+x-held : (c : tie.After-y-of) → Holds w64 (ofZ w64 (c .before .x-of .result .value)) (c .before .x-of .result .value) 161_204_000
+x-held c = record { is = search needs; size = c .before .x-of .ensures .1 }
+
+y-held : (c : tie.After-y-of) → Holds w64 (ofZ w64 (c .y-of .result .value)) (c .y-of .result .value) 1_000_504_199
+y-held c = record { is = search needs; size = c .y-of .ensures .1 }
+
 returns : tie.Need-returns
 returns c =
-    let p = c .before .before .before .before .before .before .before .before .pre in
-    let distance = c .before .before .before .before .before .before in
-    let t = size-is (distance .from-first .ok) (distance-is distance) (latitude-reach _ _ (p .2)) in
-    let x : toZ w32 (ofZ w32 (c .before .x-of .result)) ≡ c .before .x-of .result = search needs in
-    let y : toZ w32 (ofZ w32 (c .y-of .result)) ≡ c .y-of .result = search needs in
-    plane-worked _ _ _ t (l-is (c .before .before .before .before .before)) (c .before .before .before .before .size .ensures) x (c .before .x-of .ensures) y (c .y-of .ensures)
+    let worked = c .before .before .before .before .before .before in
+    let start = worked .before .before .before .before .before .before .before .before in
+    let distance = worked .before .before .before .before .before .before in
+    let t = size-is (distance .from-first .ok) (distance-is distance) (latitude-reach _ _ (start .pre .2)) in
+    let x = worked .before .x-of .ensures in
+    let y = worked .y-of .ensures in
+    plane-worked _ _ _ t (l-is (worked .before .before .before .before .before)) (worked .before .before .before .before .size .ensures)
+    (cast (x-held worked) tt .is) (x .0) (cast (y-held worked) tt .is) (y .0) (x .2) (y .2)
+
+cast-t13 : tie.Need-cast-t13
+cast-t13 c = cast-fits (x-held (c .before .before)) tt
+
+cast-t14 : tie.Need-cast-t14
+cast-t14 c = cast-fits (y-held (c .before .before .before .before)) tt
 
 from-first-requires : tie.Need-from-first-requires
 from-first-requires c κs = search needs
@@ -72,14 +88,14 @@ x-of-requires c κs =
     let t = size-is (distance .from-first .ok) (distance-is distance) (latitude-reach _ _ (p .2)) in
     let reach = size-reach (c .before .before) in
     let size = c .before .before .size .ensures in
-    (p .0, p .1, rw t (latitude-reach _ _ (p .2) .high), omega (arith, reach, size), bits-is (c .b-at .ok) ∙ c .b-at .ensures .0 ∙ ap (bAt _) (omega (arith, size)))
+    (p .0, p .1, rw t (latitude-reach _ _ (p .2) .high), omega (arith, reach, size), c .b-at .ensures .0 ∙ ap (bAt _) (omega (arith, size)), c .b-at .ensures .2 ∙ ap (bHalf _) (omega (arith, size)))
 
 y-of-requires : tie.Need-y-of-requires
 y-of-requires c κs =
     let p = c .before .before .before .before .before .before .before .pre in
     let distance = c .before .before .before .before .before in
     let t = size-is (distance .from-first .ok) (distance-is distance) (latitude-reach _ _ (p .2)) in
-    (p .0, p .1, rw t (latitude-reach _ _ (p .2) .high), size-reach (c .before .before .before), bits-is (c .before .before .c-at .ok) ∙ c .before .before .c-at .ensures .0)
+    (p .0, p .1, rw t (latitude-reach _ _ (p .2) .high), size-reach (c .before .before .before), c .before .before .c-at .ensures .0, c .before .before .c-at .ensures .2)
 
 pub plane-at-spec : {M : Type 1} → statement M
 plane-at-spec =
@@ -93,4 +109,6 @@ plane-at-spec =
     b-at-requires
     x-of-requires
     y-of-requires
+    cast-t13
+    cast-t14
     returns)

@@ -1,19 +1,19 @@
 -- `forward::x_of` meets its contract. Assumes nothing.
 use mathlib.Core.Path.{_≡_, ap, _∙_}
-use native.Mathlib.Nat.{le-trans}
-use lib.Dec.{lit≤}
+use native.Mathlib.Nat.{le-trans, lt-of-le-of-lt}
+use lib.Dec.{lit<, lit≤}
 use lib.IntN.{natAbs}
 use denote.Ref.{now}
 use mir.Syntax.{w64}
 use mir.Val.{toZ, ofZ}
 use Rattle.figures.specs.Nearest.{withSign}
 use Rattle.figures.proofs.Sizes.{size-withSign}
-use Rattle.figures.proofs.Holds.{Holds, sum, sum-fits, cast, cast-fits}
+use Rattle.figures.proofs.Holds.{Holds, sum, sum-fits}
 use Rattle.extent.proofs.Points.{size-small}
 use Rattle.tables.specs.Figures.{falseEasting}
-use Rattle.forward.specs.Forward.{xSize, xOf}
+use Rattle.forward.specs.Forward.{xSize, xOf, xHalf}
 use Rattle.forward.proofs.Eastings.{sign-worked, s-most, x-size}
-use Rattle.figures.proofs.Bits.{bits-is, bits-hold, bits-below}
+use Rattle.figures.proofs.Bits.{bits-hold}
 use borrow.Author.Needs.{needs}
 use Rattle.forward.proofs.x_of.Statement.{statement}
 use Rattle.forward.proofs.x_of.Tie as tie
@@ -25,20 +25,24 @@ size-is c =
     c .size .ensures ∙ ap natAbs l
 
 x-is : (c : tie.After-with-sign)
-    → let args = c .before .before .before .before .args in
+    → let args = c .before .before .before .before .before .args in
     Holds w64 (ofZ w64 (c .with-sign .result)) (withSign (args .l) (xSize (now (args .s)) (args .t) (natAbs (args .l)))) 61_204_000
 x-is c =
-    let start = c .before .before .before .before in
+    let start = c .before .before .before .before .before in
     let l : toZ w64 (ofZ w64 (start .args .l)) ≡ start .args .l = search needs in
-    let e = sign-worked _ _ _ l (size-is (c .before .before)) (bits-is (c .before .x-size .ok)) (c .before .x-size .ensures .0) in
+    let size : toZ w64 (ofZ w64 (c .before .before .x-size .result .value)) ≡ c .before .before .x-size .result .value = search needs in
+    let e = sign-worked _ _ _ l (size-is (c .before .before .before)) size (c .before .before .x-size .ensures .0) in
     bits-hold (c .with-sign .ok) (c .with-sign .ensures ∙ e) (rw size-withSign (x-size _ (start .pre .0) _ (start .pre .2) _ (start .pre .3)))
 
-easting : (c : tie.After-false-easting) → Holds w64 (ofZ w64 (c .false-easting .result)) (falseEasting (now (c .before .before .before .before .before .args .s))) 100_000_000
+easting : (c : tie.After-false-easting) → Holds w64 (ofZ w64 (c .false-easting .result)) (falseEasting (now (c .before .before .before .before .before .before .args .s))) 100_000_000
 easting c = bits-hold (c .false-easting .ok) (c .false-easting .ensures .0) (rw (c .false-easting .ensures .0) at (c .false-easting .ensures .1))
 
 returns : tie.Need-returns
 unfolding xOf
-returns c = cast (sum (x-is (c .before)) (easting c) tt) tt .is
+returns c =
+    let whole = sum (x-is (c .before)) (easting c) tt in
+    let sized = c .before .before .before in
+    (whole .is, rw (whole .is) (whole .size), sized .x-size .ensures .2 ∙ ap (xHalf _ _) (size-is (sized .before)))
 
 size-requires : tie.Need-size-requires
 size-requires c κs =
@@ -49,20 +53,18 @@ size-requires c κs =
 x-size-requires : tie.Need-x-size-requires
 x-size-requires c κs =
     let p = c .before .before .pre in
-    let b : toZ w64 (ofZ w64 (c .before .before .args .b)) ≡ c .before .before .args .b = search needs in
-    (p .0, p .1, p .2, rw (size-is c) (p .3), rw (size-is c) (b ∙ p .4))
+    (p .0, p .1, p .2, rw (size-is c) (p .3), rw (size-is c) (p .4), rw (size-is c) (p .5))
 
 with-sign-requires : tie.Need-with-sign-requires
-with-sign-requires c κs = bits-below (c .x-size .result) (c .x-size .ok) (c .x-size .ensures .1) tt
+with-sign-requires c κs =
+    let size : toZ w64 (ofZ w64 (c .before .x-size .result .value)) ≡ c .before .x-size .result .value = search needs in
+    rw size (lt-of-le-of-lt (c .before .x-size .ensures .1) (lit< tt))
 
 false-easting-requires : tie.Need-false-easting-requires
 false-easting-requires c κs = search needs
 
-add-result : tie.Need-add-result
-add-result c = sum-fits (x-is (c .before)) (easting c) tt
-
-cast-result : tie.Need-cast-result
-cast-result c = cast-fits (sum (x-is (c .before)) (easting c) tt) tt
+add-t10 : tie.Need-add-t10
+add-t10 c = sum-fits (x-is (c .before)) (easting c) tt
 
 pub x-of-spec : {M : Type 1} → statement M
 x-of-spec =
@@ -72,6 +74,5 @@ x-of-spec =
     x-size-requires
     with-sign-requires
     false-easting-requires
-    add-result
-    cast-result
+    add-t10
     returns)

@@ -7,33 +7,45 @@ use Prim.Native.Nat.{_≤_}
 use Rattle.figures.specs.Ranges.{mostQ}
 use Rattle.steps.specs.Steps.{qOf, rise}
 use Rattle.steps.proofs.StepBounds.{q-most}
-use Rattle.figures.proofs.Holds.{Holds, sum, sum-fits, cast, cast-fits}
+use Rattle.figures.proofs.Holds.{Holds, sum, sum-fits}
 use Rattle.tables.specs.Figures.{y0At, vAt, cAt}
 use Rattle.tables.proofs.Ranges.{c-between}
-use Rattle.forward.specs.Forward.{yOf}
-use Rattle.forward.proofs.Eastings.{rise-worked, s-most, y-rise}
-use Rattle.figures.proofs.Bits.{bits-hold}
+use Rattle.forward.specs.Forward.{yOf, yHalf}
+use Rattle.forward.proofs.Eastings.{rise-worked, y-marked, s-most, y-rise}
 use borrow.Author.Needs.{needs}
 use Rattle.forward.proofs.y_of.Statement.{statement}
 use Rattle.forward.proofs.y_of.Tie as tie
 
--- the rise, and y0, as they were worked
-rise-is : (c : tie.After-rise)
-    → let args = c .before .before .before .before .before .args in
-    Holds w64 (ofZ w64 (c .rise .result)) (rise (vAt (now (args .s)) (args .t)) (qOf (args .size)) (cAt (now (args .s)) (args .size))) 504_200
-rise-is c =
-    let start = c .before .before .before .before .before in
-    let p = start .pre in
-    let figure : toZ w64 (ofZ w64 (start .args .c)) ≡ start .args .c = search needs in
-    let e = rise-worked _ _ _ (c .before .before .v-at .ensures .0) (c .before .before .before .q-of .ensures) figure (p .4) in
-    bits-hold (c .rise .ok) (c .rise .ensures ∙ e) (y-rise _ (p .0) _ (p .2) _ (p .3))
+-- c, from its bits
+c-is : (c : tie.Start) → toZ w64 (ofZ w64 (c .args .c .value)) ≡ c .args .c .value
+c-is c = search needs
 
-y0-is : (c : tie.After-y0-at) → let args = c .before .before .before .before .args in Holds w64 (ofZ w64 (c .y0-at .result)) (y0At (now (args .s)) (args .t)) 999_999_999
-y0-is c = bits-hold (c .y0-at .ok) (c .y0-at .ensures .0) (rw (c .y0-at .ensures .0) at (c .y0-at .ensures .1))
+-- the rise, and y0, as they were worked: from the rise back to the start
+module _ (c : tie.After-rise) where
+  rise-is : Holds w64 (ofZ w64 (c .rise .result .value)) (rise (vAt (now (c .before .before .before .before .before .before .args .s)) (c .before .before .before .before .before .before .args .t)) (qOf (c .before .before .before .before .before .before .args .size)) (cAt (now (c .before .before .before .before .before .before .args .s)) (c .before .before .before .before .before .before .args .size))) 504_200
+  rise-is =
+      let start = c .before .before .before .before .before .before in
+      let p = start .pre in
+      let bits : toZ w64 (ofZ w64 (c .rise .result .value)) ≡ c .rise .result .value = search needs in
+      let e = rise-worked _ _ _ (c .before .before .before .v-at .ensures .0) (c .before .before .before .before .q-of .ensures .0) (c-is start) (p .4) in
+      record { is = bits ∙ c .rise .ensures .0 ∙ e; size = y-rise _ (p .0) _ (p .2) _ (p .3) }
+
+  y0-is : Holds w64 (ofZ w64 (c .before .before .y0-at .result .value)) (y0At (now (c .before .before .before .before .before .before .args .s)) (c .before .before .before .before .before .before .args .t)) 999_999_999
+  y0-is =
+      let y0 = c .before .before .y0-at in
+      let bits : toZ w64 (ofZ w64 (y0 .result .value)) ≡ y0 .result .value = search needs in
+      record { is = bits ∙ y0 .ensures .0; size = rw (y0 .ensures .0) at (y0 .ensures .1) }
 
 returns : tie.Need-returns
 unfolding yOf
-returns c = cast (sum (y0-is (c .before)) (rise-is c) tt) tt .is
+returns c =
+    let worked = c .before .before .before .before .before .before .before .before .before in
+    let start = worked .before .before .before .before .before .before in
+    let p = start .pre in
+    let v = worked .before .before .before .v-at in
+    let q = worked .before .before .before .before .q-of in
+    let whole = sum (y0-is worked) (rise-is worked) tt in
+    (whole .is, rw (whole .is) (whole .size), y-marked _ _ _ (v .ensures .0) (q .ensures .0) (c-is start) (p .4) (worked .before .before .y0-at .ensures .2) (v .ensures .2) (p .5) (q .ensures .1) (worked .rise .ensures .1))
 
 q-of-requires : tie.Need-q-of-requires
 q-of-requires c κs = let p = c .before .pre in s-most _ (p .0) _ (p .2) _ (p .3)
@@ -46,26 +58,14 @@ y0-at-requires c κs = search needs
 
 rise-requires : tie.Need-rise-requires
 rise-requires c κs =
-    let start = c .before .before .before .before in
+    let start = c .before .before .before .before .before in
     let p = start .pre in
-    let figure : toZ w64 (ofZ w64 (start .args .c)) ≡ start .args .c = search needs in
-    let q : c .before .before .q-of .result ≤ mostQ = rw (c .before .before .q-of .ensures) (q-most _ (s-most _ (p .0) _ (p .2) _ (p .3))) in
-    (c .before .v-at .ensures .1, q, rw (figure, p .4) (c-between _ (p .0) _ (p .3)))
+    let q : c .before .before .before .q-of .result .value ≤ mostQ = rw (c .before .before .before .q-of .ensures .0) (q-most _ (s-most _ (p .0) _ (p .2) _ (p .3))) in
+    (c .before .before .v-at .ensures .1, q, rw (c-is start, p .4) (c-between _ (p .0) _ (p .3)))
 
-add-result : tie.Need-add-result
-add-result c = sum-fits (y0-is (c .before)) (rise-is c) tt
-
-cast-result : tie.Need-cast-result
-cast-result c = cast-fits (sum (y0-is (c .before)) (rise-is c) tt) tt
+add-t10 : tie.Need-add-t10
+add-t10 c = sum-fits (y0-is (c .before .before .before .before)) (rise-is (c .before .before .before .before)) tt
 
 pub y-of-spec : {M : Type 1} → statement M
 y-of-spec =
-    tie.close
-    (tie.spec
-    q-of-requires
-    v-at-requires
-    y0-at-requires
-    rise-requires
-    add-result
-    cast-result
-    returns)
+    tie.close (tie.spec q-of-requires v-at-requires y0-at-requires rise-requires add-t10 returns)

@@ -12,8 +12,7 @@ use Rattle.tables.specs.Figures.{kAt}
 use Rattle.extent.proofs.Reach.{northing-reach, scale-reach}
 use Rattle.extent.proofs.Points.{wide, wide-fits, size-small}
 use Rattle.grid.specs.Grid.{convergenceAt}
-use Rattle.grid.proofs.Convergences.{convergence-worked, grid-worked, xp-most, convergence-small}
-use Rattle.figures.proofs.Bits.{bits-hold}
+use Rattle.grid.proofs.Convergences.{convergence-worked, grid-marked, grid-worked, xp-most, convergence-small}
 use borrow.Author.Needs.{needs}
 use Rattle.grid.proofs.grid_at.Statement.{statement}
 use Rattle.grid.proofs.grid_at.Tie as tie
@@ -25,22 +24,30 @@ xp-is c = search needs
 size-is : (c : tie.After-size) → c .size .result ≡ natAbs (c .before .before .before .args .xp)
 size-is c = c .size .ensures ∙ ap natAbs (xp-is (c .before .before .before))
 
-k-is : (c : tie.After-k-at) → let args = c .before .before .before .before .args in Holds w64 (ofZ w64 (c .k-at .result)) (kAt (now (args .s)) (natAbs (args .xp))) 10_010_000
+k-is : (c : tie.After-k-at) → let args = c .before .before .before .before .args in Holds w64 (ofZ w64 (c .k-at .result .value)) (kAt (now (args .s)) (natAbs (args .xp))) 10_010_000
 k-is c =
+    let bits : toZ w64 (ofZ w64 (c .k-at .result .value)) ≡ c .k-at .result .value = search needs in
     let same = c .k-at .ensures .0 ∙ ap (kAt _) (size-is (c .before)) in
-    bits-hold (c .k-at .ok) same (rw same at (c .k-at .ensures .1))
+    record { is = bits ∙ same; size = rw same at (c .k-at .ensures .1) }
 
 alpha-is : (c : tie.After-convergence)
     → let args = c .before .before .before .before .before .args in
-    Holds w64 (ofZ w64 (c .convergence .result)) (convergenceAt (now (args .s)) (args .xp) (args .y)) 21_474_837
+    Holds w64 (ofZ w64 (c .convergence .result .value)) (convergenceAt (now (args .s)) (args .xp) (args .y)) 21_474_837
 alpha-is c =
     let start = c .before .before .before .before .before in
     let p = start .pre in
+    let bits : toZ w64 (ofZ w64 (c .convergence .result .value)) ≡ c .convergence .result .value = search needs in
     let worked = convergence-worked _ _ _ (xp-is start) (wide (start .fits .y) .is) (c .before .before .before .m-at .ensures .0) in
-    bits-hold (c .convergence .ok) (c .convergence .ensures ∙ worked) (convergence-small _ _ _ (p .0) (p .2) (p .3))
+    record { is = bits ∙ c .convergence .ensures .0 ∙ worked; size = convergence-small _ _ _ (p .0) (p .2) (p .3) }
 
 returns : tie.Need-returns
-returns c = grid-worked _ _ _ (cast (alpha-is c) tt .is) refl (cast (k-is (c .before)) tt .is) refl
+returns c =
+    let worked = c .before .before .before .before .before .before .before in
+    let start = worked .before .before .before .before .before in
+    let k = worked .before in
+    let m = worked .before .before .before .m-at .ensures in
+    let half = grid-marked _ _ _ (xp-is start) (wide (start .fits .y) .is) (size-is (k .before)) (m .0) (m .2) (k .k-at .ensures .2) (worked .convergence .ensures .1) in
+    grid-worked _ _ _ (cast (alpha-is worked) tt .is) refl (cast (k-is k) tt .is) refl half
 
 cast-m-at : tie.Need-cast-m-at
 cast-m-at c = wide-fits (c .before .fits .y)
@@ -68,11 +75,11 @@ convergence-requires c κs =
     let start = c .before .before .before .before in
     (c .before .before .m-at .ensures .1, rw (xp-is start) (le-trans (xp-most _ _ (start .args .y) (start .pre .0) (start .pre .2)) (lit≤ tt)))
 
-cast-t9 : tie.Need-cast-t9
-cast-t9 c = cast-fits (alpha-is c) tt
-
 cast-t10 : tie.Need-cast-t10
-cast-t10 c = cast-fits (k-is (c .before)) tt
+cast-t10 c = cast-fits (alpha-is (c .before .before)) tt
+
+cast-t11 : tie.Need-cast-t11
+cast-t11 c = cast-fits (k-is (c .before .before .before .before .before)) tt
 
 pub grid-at-spec : {M : Type 1} → statement M
 grid-at-spec =
@@ -84,6 +91,6 @@ grid-at-spec =
     size-requires
     k-at-requires
     convergence-requires
-    cast-t9
     cast-t10
+    cast-t11
     returns)

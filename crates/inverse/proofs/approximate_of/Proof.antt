@@ -10,14 +10,17 @@ use Rattle.inverse.proofs.approximate_of.Statement.{statement}
 use Rattle.inverse.proofs.approximate_of.Tie as tie
 
 approximate-is : (c : tie.After-approximate-l)
-    → let args = c .before .before .before .args in c .approximate-l .result * 1_000 ≡ approximateOf (now (args .s)) (args .x) (args .t)
-approximate-is c = ap (λ (n : ℕ). n * 1_000) (c .approximate-l .ensures) ∙ approximate-worked _ _ _ (c .before .h-at .ensures .0)
+    → let args = c .before .before .before .args in c .approximate-l .result .value * 1_000 ≡ approximateOf (now (args .s)) (args .x) (args .t)
+approximate-is c = ap (λ (n : ℕ). n * 1_000) (c .approximate-l .ensures .0) ∙ approximate-worked _ _ _ (c .before .h-at .ensures .0)
 
-small : (c : tie.After-approximate-l) → c .approximate-l .result * 1_000 ≤ 30_000_000
+small : (c : tie.After-approximate-l) → c .approximate-l .result .value * 1_000 ≤ 30_000_000
 small c = let p = c .before .before .before .pre in rw (approximate-is c) (approximate-small _ (p .0) _ _ (p .2) (p .3))
 
 returns : tie.Need-returns
-returns c = (approximate-is c, small c)
+returns c =
+    let worked = c .before in
+    let h = worked .before .h-at .ensures .0 in
+    (approximate-is worked, small worked, worked .approximate-l .ensures .1 ∙ rw h)
 
 h-at-requires : tie.Need-h-at-requires
 h-at-requires c κs = search needs
@@ -27,8 +30,8 @@ approximate-l-requires c κs =
     let p = c .before .before .pre in
     (x-small _ (p .0) _ _ (p .2) (p .3), omega (arith, c .h-at .ensures .1), c .h-at .ensures .2)
 
-mul-result : tie.Need-mul-result
-mul-result c = record { fits = omega (arith, small c) }
+mul-t7 : tie.Need-mul-t7
+mul-t7 c = record { fits = omega (arith, small (c .before)) }
 
 pub approximate-of-spec : {M : Type 1} → statement M
-approximate-of-spec = tie.close (tie.spec h-at-requires approximate-l-requires mul-result returns)
+approximate-of-spec = tie.close (tie.spec h-at-requires approximate-l-requires mul-t7 returns)

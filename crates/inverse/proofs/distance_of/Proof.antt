@@ -6,7 +6,7 @@ use mir.Val.{toZ, ofZ}
 use Rattle.row_search.specs.Rows.{lastNotAbove}
 use Rattle.tables.proofs.ByName.{latitude-place}
 use Rattle.extent.proofs.Reach.{reduced-reach}
-use Rattle.inverse.specs.Inverse.{rowOf, secondsPast}
+use Rattle.inverse.specs.Inverse.{rowOf, secondsPast, distanceHalf}
 use Rattle.inverse.proofs.Distances.{distance-are, distance-known, distance-fits, row-step-fits}
 use borrow.Author.Needs.{needs}
 use Rattle.inverse.proofs.distance_of.Statement.{statement}
@@ -20,15 +20,19 @@ unfolding rowOf
 row-is c = c .row-of .ensures .0 ∙ ap (lastNotAbove _ _) (reduced-is (c .before .before))
 
 seconds-is : (c : tie.After-seconds-past)
-    → let args = c .before .before .before .before .args in c .seconds-past .result ≡ secondsPast (now (args .s)) (args .reduced) (c .before .before .row-of .result)
-seconds-is c = c .seconds-past .ensures ∙ rw (reduced-is (c .before .before .before .before))
+    → let args = c .before .before .before .args in c .seconds-past .result .value ≡ secondsPast (now (args .s)) (args .reduced) (c .before .row-of .result)
+seconds-is c = c .seconds-past .ensures .0 ∙ rw (reduced-is (c .before .before .before))
 
 returns : tie.Need-returns
+unfolding distanceHalf
 returns c =
-    let p = c .before .before .before .before .pre in
-    let row = row-is (c .before .before) in (
-      distance-are _ (p .0) _ (p .2) _ row _ _ (c .before .step-of .ensures) (seconds-is c),
-      distance-known _ (p .0) _ (p .2) _ row _ _ (c .before .step-of .ensures) (seconds-is c),
+    let past = c .before .before in
+    let start = past .before .before .before in
+    let p = start .pre in
+    let row = row-is (past .before) in (
+      distance-are _ (p .0) _ (p .2) _ row _ _ (c .before .step-of .ensures) (seconds-is past),
+      distance-known _ (p .0) _ (p .2) _ row _ _ (c .before .step-of .ensures) (seconds-is past),
+      past .seconds-past .ensures .1 ∙ rw (reduced-is start, row),
     )
 
 row-of-requires : tie.Need-row-of-requires
@@ -40,23 +44,24 @@ row-of-requires c κs =
 step-of-requires : tie.Need-step-of-requires
 step-of-requires c κs = search needs
 
-mul-result : tie.Need-mul-result
-mul-result c =
-    let p = c .before .before .before .pre in
-    row-step-fits _ (p .0) _ (p .2) _ (row-is (c .before)) _ (c .step-of .ensures)
-
 seconds-past-requires : tie.Need-seconds-past-requires
 seconds-past-requires c κs =
-    let start = c .before .before .before in
+    let start = c .before .before in
     let p = start .pre in
-    (p .0, p .1, rw (reduced-is start) (p .2), rw (reduced-is start) (row-is (c .before)))
+    (p .0, p .1, rw (reduced-is start) (p .2), rw (reduced-is start) (row-is c))
 
-add-result : tie.Need-add-result
-add-result c =
+mul-t8 : tie.Need-mul-t8
+mul-t8 c =
     let p = c .before .before .before .before .pre in
-    distance-fits _ (p .0) _ (p .2) _ (row-is (c .before .before)) _ _ (c .before .step-of .ensures) (seconds-is c)
+    row-step-fits _ (p .0) _ (p .2) _ (row-is (c .before .before)) _ (c .step-of .ensures)
+
+add-t9 : tie.Need-add-t9
+add-t9 c =
+    let past = c .before .before in
+    let p = past .before .before .before .pre in
+    distance-fits _ (p .0) _ (p .2) _ (row-is (past .before)) _ _ (c .before .step-of .ensures) (seconds-is past)
 
 pub distance-of-spec : {M : Type 1} → statement M
 distance-of-spec =
     tie.close
-    (tie.spec row-of-requires step-of-requires mul-result seconds-past-requires add-result returns)
+    (tie.spec row-of-requires seconds-past-requires step-of-requires mul-t8 add-t9 returns)

@@ -11,7 +11,7 @@ use Rattle.words.proofs.Refusals.{stop, go, kept}
 use Rattle.extent.specs.Extent.{sizeKnown}
 use Rattle.extent.proofs.Reach.{easting-reach, easting-span}
 use Rattle.extent.proofs.Points.{size-small}
-use Rattle.inverse.specs.Inverse.{approximateOf, sizeOf, fromDistance}
+use Rattle.inverse.specs.Inverse.{approximateOf, sizeOf, sizeHalf, fromDistance}
 use Rattle.figures.proofs.Bits.{bits-is}
 use borrow.Author.Needs.{needs}
 use Rattle.inverse.proofs.from_distance.Statement.{statement}
@@ -24,23 +24,30 @@ xp-is c = search needs
 x-is : (c : tie.After-size) → c .size .result ≡ natAbs (c .before .before .args .xp)
 x-is c = c .size .ensures ∙ ap natAbs (xp-is (c .before .before))
 
-approximate-is : (c : tie.After-approximate-of) → let args = c .before .before .before .args in c .approximate-of .result ≡ approximateOf (now (args .s)) (natAbs (args .xp)) (args .t)
+approximate-is : (c : tie.After-approximate-of) → let args = c .before .before .before .args in c .approximate-of .result .value ≡ approximateOf (now (args .s)) (natAbs (args .xp)) (args .t)
 approximate-is c = c .approximate-of .ensures .0 ∙ rw (x-is (c .before))
 
 -- the tests of both
 first-known : (c : tie.After-size-known)
-    → let args = c .before .before .before .before .args in c .size-known .result ≡ sizeKnown (now (args .s)) (pos (approximateOf (now (args .s)) (natAbs (args .xp)) (args .t)))
+    → let args = c .before .before .before .before .before .args in c .size-known .result ≡ sizeKnown (now (args .s)) (pos (approximateOf (now (args .s)) (natAbs (args .xp)) (args .t)))
 first-known c =
-    let same = held-size w64 (c .before .approximate-of .ensures .1) tt .is ∙ ap pos (approximate-is (c .before)) in
+    let approximate = c .before .before in
+    let same = held-size w64 (approximate .approximate-of .ensures .1) tt .is ∙ ap pos (approximate-is approximate) in
     c .size-known .ensures ∙ ap (sizeKnown _) same
 
-size-is : (c : tie.After-size-of)
-    → let args = c .before .before .before .before .before .before .args in c .size-of .result ≡ sizeOf (now (args .s)) (natAbs (args .xp)) (args .t)
-size-is c = c .size-of .ensures ∙ rw (x-is (c .before .before .before .before))
+module _ (c : tie.After-size-of) where
+  size-bits : toZ w64 (ofZ w64 (c .size-of .result .value)) ≡ c .size-of .result .value
+  size-bits = search needs
+
+  size-is : let args = c .before .before .before .before .before .before .before .args in c .size-of .result .value ≡ sizeOf (now (args .s)) (natAbs (args .xp)) (args .t)
+  size-is = c .size-of .ensures .0 ∙ rw (x-is (c .before .before .before .before .before))
+
+  half-is : let args = c .before .before .before .before .before .before .before .args in c .size-of .result .half ≡ sizeHalf (now (args .s)) (natAbs (args .xp)) (args .t)
+  half-is = c .size-of .ensures .1 ∙ rw (x-is (c .before .before .before .before .before))
 
 second-known : (c : tie.After-size-known2)
-    → let args = c .before .before .before .before .before .before .before .args in c .size-known2 .result ≡ sizeKnown (now (args .s)) (sizeOf (now (args .s)) (natAbs (args .xp)) (args .t))
-second-known c = c .size-known2 .ensures ∙ ap (sizeKnown _) (bits-is (c .before .size-of .ok) ∙ size-is (c .before))
+    → let args = c .before .before .before .before .before .before .before .before .before .args in c .size-known2 .result ≡ sizeKnown (now (args .s)) (sizeOf (now (args .s)) (natAbs (args .xp)) (args .t))
+second-known c = c .size-known2 .ensures ∙ ap (sizeKnown _) (size-bits (c .before .before) ∙ size-is (c .before .before))
 
 returns : tie.Need-returns
 unfolding fromDistance
@@ -49,14 +56,14 @@ returns c = stop _ _ _ _ (first-known (c .before)) (c .if1 .taken)
 returns-2 : tie.Need-returns-2
 unfolding fromDistance
 returns-2 c =
-    go _ _ _ _ _ (first-known (c .before .before .before .before)) (c .before .before .before .if1 .left)
+    go _ _ _ _ _ (first-known (c .before .before .before .before .before)) (c .before .before .before .before .if1 .left)
     (stop _ _ _ _ (second-known (c .before)) (c .if2 .taken))
 
 returns-3 : tie.Need-returns-3
 unfolding fromDistance
 returns-3 c =
-    let start = c .before .before .before .before .before .before .before .before .before in
-    go _ _ _ _ _ (first-known (c .before .before .before .before .before)) (c .before .before .before .before .if1 .left)
+    let start = c .before .before .before .before .before .before .before .before .before .before .before in
+    go _ _ _ _ _ (first-known (c .before .before .before .before .before .before)) (c .before .before .before .before .before .if1 .left)
     (go _ _ _ _ _ (second-known (c .before .before)) (c .before .if2 .left)
     (c .geographic-at .ensures ∙ rw (xp-is start)))
 
@@ -79,20 +86,21 @@ size-known-requires c κs = search needs
 
 size-of-requires : tie.Need-size-of-requires
 size-of-requires c κs =
-    let p = c .before .before .before .before .before .pre in
-    let approximate = c .before .before .approximate-of in
+    let p = c .before .before .before .before .before .before .pre in
+    let approximate = c .before .before .before .approximate-of in
     let known = rw (held-size w64 (approximate .ensures .1) tt .is) at (kept _ _ (c .before .size-known .ensures) (c .if1 .left)) in
-    (p .0, p .1, rw (x-is (c .before .before .before)) (easting-reach _ _ (p .2)), p .3, approximate .ensures .0, known)
+    (p .0, p .1, rw (x-is (c .before .before .before .before)) (easting-reach _ _ (p .2)), p .3, approximate .ensures .0, known, approximate .ensures .2)
 
 size-known-requires-2 : tie.Need-size-known-requires-2
 size-known-requires-2 c κs = search needs
 
 geographic-at-requires : tie.Need-geographic-at-requires
 geographic-at-requires c κs =
-    let start = c .before .before .before .before .before .before .before .before in
+    let start = c .before .before .before .before .before .before .before .before .before .before in
     let p = start .pre in
-    let size = c .before .before in
-    (p .0, p .1, p .3, rw (xp-is start, bits-is (size .size-of .ok)) (size-is size), kept _ _ (c .before .size-known2 .ensures) (c .if2 .left))
+    let size = c .before .before .before in
+    let known = rw (size-bits size) at (kept _ _ (c .before .size-known2 .ensures) (c .if2 .left)) in
+    (p .0, p .1, p .3, rw (xp-is start) (size-is size), known, rw (xp-is start) (half-is size))
 
 pub from-distance-spec : {M : Type 1} → statement M
 from-distance-spec =

@@ -26,9 +26,10 @@ returns c = stop _ _ _ _ (known (c .before)) (c .if1 .taken)
 returns-2 : tie.Need-returns-2
 unfolding fromReduced
 returns-2 c =
-    let start = c .before .before .before .before .before in
-    go _ _ _ _ _ (known (c .before .before .before)) (c .before .before .if1 .left)
-    (c .from-distance .ensures ∙ rw (xp-is start, c .before .distance-of .ensures .0, reduced-is start))
+    let start = c .before .before .before .before .before .before in
+    let t = c .before .before .distance-of .ensures in
+    go _ _ _ _ _ (known (c .before .before .before .before)) (c .before .before .before .if1 .left)
+    (c .from-distance .ensures ∙ rw (xp-is start, t .0, t .2, reduced-is start))
 
 reduced-known-requires : tie.Need-reduced-known-requires
 reduced-known-requires c κs = search needs
@@ -41,9 +42,9 @@ distance-of-requires c κs =
 
 from-distance-requires : tie.Need-from-distance-requires
 from-distance-requires c κs =
-    let start = c .before .before .before .before in
+    let start = c .before .before .before .before .before in
     let p = start .pre in
-    (p .0, p .1, rw (xp-is start) (p .2), c .distance-of .ensures .1)
+    (p .0, p .1, rw (xp-is start) (p .2), c .before .distance-of .ensures .1)
 
 pub from-reduced-spec : {M : Type 1} → statement M
 from-reduced-spec =

@@ -31,17 +31,17 @@ first c = bits-hold (c .first-latitude .ok) (c .first-latitude .ensures .0) (rw 
 central : (c : tie.After-central-meridian) → Holds w64 (ofZ w64 (c .central-meridian .result)) (centralMeridian (now (c .before .before .before .args .s))) 642_000_000
 central c = bits-hold (c .central-meridian .ok) (c .central-meridian .ensures .0) (rw (c .central-meridian .ensures .0) at (c .central-meridian .ensures .1))
 
-size-is : (c : tie.Start) → toZ w64 (ofZ w64 (c .args .size)) ≡ c .args .size
+size-is : (c : tie.Start) → toZ w64 (ofZ w64 (c .args .size .value)) ≡ c .args .size .value
 size-is c = search needs
 
-size-small : (c : tie.Start) → natAbs (c .args .size) ≤ mostS
+size-small : (c : tie.Start) → natAbs (c .args .size .value) ≤ mostS
 size-small c = le-trans (size-reach _ _ (c .pre .4) .high) (longitude-span _ (c .pre .0))
 
 l-is : (c : tie.After-with-sign)
-    → let args = c .before .before .before .before .args in
+    → let args = c .before .before .before .before .before .args in
     Holds w64 (ofZ w64 (c .with-sign .result)) (withSign (args .xp) (sizeOf (now (args .s)) (natAbs (args .xp)) (args .t))) mostS
 l-is c =
-    let start = c .before .before .before .before in
+    let start = c .before .before .before .before .before in
     let xp : toZ w64 (ofZ w64 (start .args .xp)) ≡ start .args .xp = search needs in
     let same = both-same withSign xp (size-is start ∙ start .pre .3) in
     bits-hold (c .with-sign .ok) (c .with-sign .ensures ∙ same) (rw (size-withSign, ← start .pre .3) (size-small start))
@@ -49,46 +49,48 @@ l-is c =
 returns : tie.Need-returns
 unfolding longitudeOf
 returns c =
-    let north = cast (sum (first (c .before .before)) (distance (c .before .before .before .before)) tt) tt in
-    let west = cast (difference (central (c .before)) (l-is c) tt) tt in
-    geographic-worked _ _ _ (north .is) refl (west .is) refl
+    let worked = c .before in
+    let start = worked .before .before .before .before .before in
+    let north = cast (sum (first (worked .before .before .before)) (distance start) tt) tt in
+    let west = cast (difference (central (worked .before .before)) (l-is worked) tt) tt in
+    geographic-worked _ _ _ _ (north .is) refl (west .is) refl (start .pre .5)
 
 first-latitude-requires : tie.Need-first-latitude-requires
 first-latitude-requires c κs = search needs
 
-cast-t7 : tie.Need-cast-t7
-cast-t7 c =
+cast-t8 : tie.Need-cast-t8
+cast-t8 c =
     let p = c .before .before .pre in
     record { sfits = omega (arith, p .2, latitude-span _ (p .0)) }
 
-add-t8 : tie.Need-add-t8
-add-t8 c = sum-fits (first c) (distance (c .before .before)) tt
+add-t9 : tie.Need-add-t9
+add-t9 c = sum-fits (first c) (distance (c .before .before)) tt
 
-cast-t9 : tie.Need-cast-t9
-cast-t9 c = cast-fits (sum (first c) (distance (c .before .before)) tt) tt
+cast-t10 : tie.Need-cast-t10
+cast-t10 c = cast-fits (sum (first c) (distance (c .before .before)) tt) tt
 
 central-meridian-requires : tie.Need-central-meridian-requires
 central-meridian-requires c κs = search needs
 
 with-sign-requires : tie.Need-with-sign-requires
-with-sign-requires c κs = rw (size-is (c .before .before .before)) (lt-of-le-of-lt (size-small (c .before .before .before)) (lit< tt))
+with-sign-requires c κs = rw (size-is (c .before .before .before .before)) (lt-of-le-of-lt (size-small (c .before .before .before .before)) (lit< tt))
 
-sub-t12 : tie.Need-sub-t12
-sub-t12 c = difference-fits (central (c .before)) (l-is c) tt
+sub-t13 : tie.Need-sub-t13
+sub-t13 c = difference-fits (central (c .before .before)) (l-is c) tt
 
-cast-t13 : tie.Need-cast-t13
-cast-t13 c = cast-fits (difference (central (c .before)) (l-is c) tt) tt
+cast-t14 : tie.Need-cast-t14
+cast-t14 c = cast-fits (difference (central (c .before .before)) (l-is c) tt) tt
 
 pub geographic-at-spec : {M : Type 1} → statement M
 geographic-at-spec =
     tie.close
     (tie.spec
     first-latitude-requires
-    cast-t7
-    add-t8
-    cast-t9
+    cast-t8
+    add-t9
+    cast-t10
     central-meridian-requires
     with-sign-requires
-    sub-t12
-    cast-t13
+    sub-t13
+    cast-t14
     returns)

@@ -7,7 +7,7 @@ use mir.Val.{toZ, ofZ}
 use Rattle.words.proofs.Refusals.{stop, go, kept}
 use Rattle.extent.specs.Extent.{xPrime, eastingKnown, northingKnown}
 use Rattle.extent.proofs.Reach.{easting-reach}
-use Rattle.inverse.specs.Inverse.{reducedNorthing, fromReduced, inverseOf}
+use Rattle.inverse.specs.Inverse.{reducedNorthing, reducedHalf, fromReduced, inverseOf}
 use Rattle.figures.proofs.Bits.{bits-is, bits-below, both-same}
 use borrow.Author.Needs.{needs}
 use Rattle.inverse.proofs.inverse.Statement.{statement}
@@ -29,12 +29,18 @@ easting-known-is c = c .easting-known .ensures ∙ ap (eastingKnown _) (xp-is (c
 northing-is : (c : tie.After-northing-known) → let args = c .before .before .before .before .before .args in c .northing-known .result ≡ northingKnown (now (args .s)) (args .y)
 northing-is c = c .northing-known .ensures ∙ ap (northingKnown _) (y-is (c .before .before .before .before .before))
 
-reduced-is : (c : tie.After-reduced-northing)
-    → let args = c .before .before .before .before .before .before .before .before .args in
-    toZ w64 (ofZ w64 (c .reduced-northing .result)) ≡ reducedNorthing (now (args .s)) (natAbs (xPrime (now (args .s)) (args .x))) (args .y)
-reduced-is c =
-    let size = c .before .size .ensures ∙ ap natAbs (xp-is (c .before .before .before .before .before .before)) in
-    bits-is (c .reduced-northing .ok) ∙ c .reduced-northing .ensures .0 ∙ rw (size, y-is (c .before .before .before .before .before .before .before .before))
+module _ (c : tie.After-reduced-northing) where
+  reduced-bits : toZ w64 (ofZ w64 (c .reduced-northing .result .value)) ≡ c .reduced-northing .result .value
+  reduced-bits = search needs
+
+  x-size : let args = c .before .before .before .before .before .before .before .before .args in c .before .size .result ≡ natAbs (xPrime (now (args .s)) (args .x))
+  x-size = c .before .size .ensures ∙ ap natAbs (xp-is (c .before .before .before .before .before .before))
+
+  reduced-is : let args = c .before .before .before .before .before .before .before .before .args in toZ w64 (ofZ w64 (c .reduced-northing .result .value)) ≡ reducedNorthing (now (args .s)) (natAbs (xPrime (now (args .s)) (args .x))) (args .y)
+  reduced-is = reduced-bits ∙ c .reduced-northing .ensures .0 ∙ rw (x-size, y-is (c .before .before .before .before .before .before .before .before))
+
+  half-is : let args = c .before .before .before .before .before .before .before .before .args in c .reduced-northing .result .half ≡ reducedHalf (now (args .s)) (natAbs (xPrime (now (args .s)) (args .x))) (args .y)
+  half-is = c .reduced-northing .ensures .2 ∙ rw (x-size, y-is (c .before .before .before .before .before .before .before .before))
 
 returns : tie.Need-returns
 unfolding inverseOf
@@ -47,10 +53,10 @@ returns-2 c = go _ _ _ _ _ (easting-known-is (c .before .before .before)) (c .be
 returns-3 : tie.Need-returns-3
 unfolding inverseOf
 returns-3 c =
-    let found = c .before in
+    let found = c .before .before in
     go _ _ _ _ _ (easting-known-is (found .before .before .before .before .before)) (found .before .before .before .before .if1 .left)
     (go _ _ _ _ _ (northing-is (found .before .before .before)) (found .before .before .if2 .left)
-    (c .from-reduced .ensures ∙ both-same (fromReduced _) (xp-is (found .before .before .before .before .before .before)) (reduced-is found)))
+    (c .from-reduced .ensures ∙ rw (xp-is (found .before .before .before .before .before .before), reduced-is found, half-is found)))
 
 x-prime-requires : tie.Need-x-prime-requires
 x-prime-requires c κs = search needs
@@ -72,9 +78,10 @@ reduced-northing-requires c κs =
 
 from-reduced-requires : tie.Need-from-reduced-requires
 from-reduced-requires c κs =
-    let p = c .before .before .before .before .before .before .before .before .pre in
-    let easting = kept _ _ (c .before .before .before .before .before .easting-known .ensures) (c .before .before .before .before .if1 .left) in
-    (p .0, p .1, easting, rw (bits-is (c .reduced-northing .ok)) (c .reduced-northing .ensures .1))
+    let found = c .before in
+    let p = found .before .before .before .before .before .before .before .before .pre in
+    let easting = kept _ _ (found .before .before .before .before .before .easting-known .ensures) (found .before .before .before .before .if1 .left) in
+    (p .0, p .1, easting, rw (reduced-bits found) (found .reduced-northing .ensures .1))
 
 pub inverse-spec : {M : Type 1} → statement M
 inverse-spec =

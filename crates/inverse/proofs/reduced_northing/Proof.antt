@@ -1,11 +1,11 @@
 -- `inverse::reduced_northing` meets its contract. Assumes nothing.
-use mathlib.Core.Path.{_∙_}
+use mathlib.Core.Path.{_≡_, _∙_}
 use native.Mathlib.Nat.{le-trans}
 use lib.Dec.{lit≤}
 use lib.IntN.{natAbs}
 use denote.Ref.{now}
 use mir.Syntax.{w64}
-use mir.Val.{ofZ}
+use mir.Val.{toZ, ofZ}
 use Rattle.steps.specs.Steps.{reduction}
 use Rattle.figures.proofs.Sizes.{size-nonNeg}
 use Rattle.figures.proofs.Holds.{Holds, difference, difference-fits, unsigned-fits, size-below}
@@ -13,28 +13,36 @@ use Rattle.tables.specs.Figures.{pAt, dAt}
 use Rattle.extent.proofs.Reach.{northing-reach, easting-span}
 use Rattle.extent.proofs.Points.{wide, wide-fits}
 use Rattle.inverse.specs.Inverse.{reducedNorthing}
-use Rattle.inverse.proofs.Longitudes.{reduction-worked, reduction-small}
+use Rattle.inverse.proofs.Longitudes.{reduction-worked, reduced-marked, reduction-small}
 use Rattle.figures.proofs.Bits.{bits-is, bits-most, bits-hold}
 use borrow.Author.Needs.{needs}
 use Rattle.inverse.proofs.reduced_northing.Statement.{statement}
 use Rattle.inverse.proofs.reduced_northing.Tie as tie
 
--- the reduction, as it was worked
+-- d, and the reduction, as they were worked
+d-is : (c : tie.After-d-at) → toZ w64 (ofZ w64 (c .d-at .result .value)) ≡ c .d-at .result .value
+d-is c = search needs
+
 reduction-is : (c : tie.After-reduction)
-    → let args = c .before .before .before .before .args in
-    Holds w64 (ofZ w64 (c .reduction .result)) (reduction (pAt (now (args .s)) (natAbs (args .y))) (args .x) (dAt (now (args .s)) (args .x))) 8_100_100
+    → let args = c .before .before .before .before .before .args in
+    Holds w64 (ofZ w64 (c .reduction .result .value)) (reduction (pAt (now (args .s)) (natAbs (args .y))) (args .x) (dAt (now (args .s)) (args .x))) 8_100_100
 reduction-is c =
-    let start = c .before .before .before .before in
+    let start = c .before .before .before .before .before in
     let p = start .pre in
-    let d = c .before .d-at in
-    let worked = reduction-worked _ _ _ (wide (start .fits .y) .is) (c .before .before .p-at .ensures .0) (bits-is (d .ok)) (d .ensures .0) in
-    bits-hold (c .reduction .ok) (c .reduction .ensures ∙ worked) (reduction-small _ (p .0) _ _ (p .2) (northing-reach _ _ (p .3) .high))
+    let read = c .before .before in
+    let bits : toZ w64 (ofZ w64 (c .reduction .result .value)) ≡ c .reduction .result .value = search needs in
+    let worked = reduction-worked _ _ _ (wide (start .fits .y) .is) (read .before .p-at .ensures .0) (d-is read) (read .d-at .ensures .0) in
+    record { is = bits ∙ c .reduction .ensures .0 ∙ worked; size = reduction-small _ (p .0) _ _ (p .2) (northing-reach _ _ (p .3) .high) }
 
 returns : tie.Need-returns
 unfolding reducedNorthing
 returns c =
-    let reduced = difference (wide (c .before .before .before .before .fits .y)) (reduction-is c) tt in
-    (reduced .is, size-below reduced tt)
+    let worked = c .before .before .before .before .before in
+    let start = worked .before .before .before .before .before in
+    let read = worked .before .before in
+    let big-p = read .before .p-at .ensures in
+    let reduced = difference (wide (start .fits .y)) (reduction-is worked) tt in
+    (reduced .is, size-below reduced tt, reduced-marked _ _ _ (wide (start .fits .y) .is) (big-p .0) (d-is read) (read .d-at .ensures .0) (big-p .2) (read .d-at .ensures .2) (worked .reduction .ensures .1))
 
 cast-north : tie.Need-cast-north
 cast-north c = wide-fits (c .before .fits .y)
@@ -52,11 +60,12 @@ d-at-requires c κs = search needs
 
 reduction-requires : tie.Need-reduction-requires
 reduction-requires c κs =
-    let p = c .before .before .before .pre in
-    (c .before .p-at .ensures .1, le-trans (p .2) (le-trans (easting-span _ (p .0)) (lit≤ tt)), bits-most (c .d-at .result) (c .d-at .ok) (c .d-at .ensures .1))
+    let read = c .before in
+    let p = read .before .before .before .pre in
+    (read .before .p-at .ensures .1, le-trans (p .2) (le-trans (easting-span _ (p .0)) (lit≤ tt)), rw (d-is read) (read .d-at .ensures .1))
 
-sub-result : tie.Need-sub-result
-sub-result c = difference-fits (wide (c .before .before .before .before .fits .y)) (reduction-is c) tt
+sub-t10 : tie.Need-sub-t10
+sub-t10 c = difference-fits (wide (c .before .before .before .before .before .before .before .fits .y)) (reduction-is (c .before .before)) tt
 
 pub reduced-northing-spec : {M : Type 1} → statement M
 reduced-northing-spec =
@@ -67,5 +76,5 @@ reduced-northing-spec =
     p-at-requires
     d-at-requires
     reduction-requires
-    sub-result
+    sub-t10
     returns)

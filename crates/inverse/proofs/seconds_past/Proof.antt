@@ -9,7 +9,7 @@ use mir.Val.{toZ, ofZ}
 use Rattle.entries.specs.Layout.{latitude}
 use Rattle.entries.specs.Entries.{rowsOf}
 use Rattle.extent.proofs.Counts.{count-is}
-use Rattle.inverse.proofs.Distances.{z-most, row-below, next-fits, above-row, above-next, past-asks, gap-some, gap-asks, seconds-are, no-seconds}
+use Rattle.inverse.proofs.Distances.{seconds-marked, no-seconds-half, z-most, row-below, next-fits, above-row, above-next, past-asks, gap-some, gap-asks, seconds-are, no-seconds}
 use Rattle.figures.proofs.Bits.{bits-is, bits-most}
 use borrow.Author.Needs.{needs}
 use Rattle.inverse.proofs.seconds_past.Statement.{statement}
@@ -29,13 +29,16 @@ returns c =
     let y0 = c .before .before .before .before .before .y0-of in
     let next = c .before .before .before .before .y0-of2 in
     let there = next-row (c .before .before .before .before .before .before) in
-    seconds-are _ (p .0) _ (p .2) _ (p .3) _ _ _ (bits-is (y0 .ok)) (y0 .ensures .0) (reduced-is start) _ _ (bits-is (next .ok)) (next .ensures .0) there _ _
-    (c .before .before .above .ensures) (c .before .above2 .ensures) _ _ (c .before .before .before .step-of .ensures) (c .seconds .ensures)
+    let step = c .before .before .before .step-of .ensures in (
+      seconds-are _ (p .0) _ (p .2) _ (p .3) _ _ _ (bits-is (y0 .ok)) (y0 .ensures .0) (reduced-is start) _ _ (bits-is (next .ok)) (next .ensures .0) there _ _ (c .before .before .above .ensures) (c .before .above2 .ensures) _ _ step (c .seconds .ensures .0),
+      seconds-marked _ (p .0) _ (p .2) _ (p .3) _ _ _ (bits-is (y0 .ok)) (y0 .ensures .0) (reduced-is start) _ _ (bits-is (next .ok)) (next .ensures .0) there _ _ (c .before .before .above .ensures) (c .before .above2 .ensures) _ _ step (c .seconds .ensures .1),
+    )
 
 returns-2 : tie.Need-returns-2
 returns-2 c =
     let p = c .before .before .before .pre in
-    no-seconds _ (p .0) _ (p .2) _ (p .3) (rw (count-is _ (p .0) _ (p .1)) at (c .if1 .left))
+    let beyond = rw (count-is _ (p .0) _ (p .1)) at (c .if1 .left) in
+    (no-seconds _ (p .0) _ (p .2) _ (p .3) beyond, no-seconds-half _ (p .0) _ (p .2) _ (p .3) beyond)
 
 add-if1 : tie.Need-add-if1
 add-if1 c = let p = c .before .pre in next-fits _ (p .0) _ (p .2) _ (p .3)

@@ -1,19 +1,18 @@
 -- `reading::past_row` meets its contract. Assumes nothing.
 use mathlib.Core.Path.{_∙_}
-use mir.Facts.{toZ-ofZ}
-use borrow.Author.Needs.{sfits-of}
-use Rattle.reading.specs.Tables.{pastRow}
+use Rattle.reading.specs.Tables.{pastRow, pastRowHalf}
 use Rattle.reading.proofs.Pairs.{next-word}
 use borrow.Author.Needs.{needs}
 use Rattle.reading.proofs.past_row.Statement.{statement}
 use Rattle.reading.proofs.past_row.Tie as tie
 
 returns : tie.Need-returns
-unfolding pastRow
+unfolding pastRow pastRowHalf
 returns c =
     let a = c .before .before .before .before .args in
     let next = c .before .raised-word2 .ensures .0 ∙ next-word (a .b .now) (a .w) (a .c) (a .i) in
-    toZ-ofZ (sfits-of (c .between .ok)) ∙ c .between .ensures ∙ rw (c .before .before .raised-word .ensures .0, next)
+    let this = c .before .before .raised-word .ensures .0 in
+    (c .between .ensures .0 ∙ rw (this, next), c .between .ensures .1 ∙ rw (this, next))
 
 mul-at : tie.Need-mul-at
 mul-at c = search needs

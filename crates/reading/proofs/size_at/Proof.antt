@@ -2,7 +2,7 @@
 use mathlib.Core.Path.{_∙_}
 use native.Mathlib.Omega.{arith}
 use Rattle.reading.specs.Tables.{column}
-use Rattle.reading.proofs.Pairs.{back-most, past-most, pair-value, pair-within, pair-sizes}
+use Rattle.reading.proofs.Pairs.{back-most, past-most, pair-value, pair-half, pair-within, pair-sizes}
 use Rattle.reading.proofs.Within.{this-there}
 use borrow.Author.Needs.{needs}
 use Rattle.reading.proofs.size_at.Statement.{statement}
@@ -11,7 +11,8 @@ use Rattle.reading.proofs.size_at.Tie as tie
 returns : tie.Need-returns
 returns c =
     let p = c .before .before .before .pre in
-    c .size-past-row .ensures ∙ pair-value _ _ _ _ (p .0) (p .3) (p .5) (c .before .with-next .ensures) _
+    let e = c .before .with-next .ensures in
+    (c .size-past-row .ensures .0 ∙ pair-value _ _ _ _ (p .0) (p .3) (p .5) e _, c .size-past-row .ensures .1 ∙ pair-half _ _ _ _ (p .0) (p .3) (p .5) e _)
 
 div-with-next : tie.Need-div-with-next
 div-with-next c = search needs

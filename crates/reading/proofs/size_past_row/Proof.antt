@@ -1,12 +1,12 @@
 -- `reading::size_past_row` meets its contract. Assumes nothing.
 use Rattle.figures.proofs.Raised.{first-fits, second-fits, weighed-fits, weighed-numerator}
-use Rattle.reading.proofs.Unsigned.{word-row, sizes-between}
+use Rattle.reading.proofs.Unsigned.{word-row, sizes-between, sizes-half}
 use borrow.Author.Needs.{needs}
 use Rattle.reading.proofs.size_past_row.Statement.{statement}
 use Rattle.reading.proofs.size_past_row.Tie as tie
 
 returns : tie.Need-returns
-returns c = search (sizes-between, needs)
+returns c = search (sizes-between, sizes-half, needs)
 
 mul-at : tie.Need-mul-at
 mul-at c = search needs

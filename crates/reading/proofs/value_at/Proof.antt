@@ -1,9 +1,7 @@
 -- `reading::value_at` meets its contract. Assumes nothing.
 use mathlib.Core.Path.{_∙_}
-use mir.Facts.{toZ-ofZ}
-use borrow.Author.Needs.{sfits-of}
 use native.Mathlib.Omega.{arith}
-use Rattle.reading.proofs.Pairs.{back-most, past-most, pair-value, pair-within}
+use Rattle.reading.proofs.Pairs.{back-most, past-most, pair-value, pair-half, pair-within}
 use Rattle.reading.proofs.Within.{this-there}
 use borrow.Author.Needs.{needs}
 use Rattle.reading.proofs.value_at.Statement.{statement}
@@ -12,7 +10,8 @@ use Rattle.reading.proofs.value_at.Tie as tie
 returns : tie.Need-returns
 returns c =
     let p = c .before .before .before .pre in
-    toZ-ofZ (sfits-of (c .past-row .ok)) ∙ c .past-row .ensures ∙ pair-value _ _ _ _ (p .0) (p .3) (p .5) (c .before .with-next .ensures) _
+    let e = c .before .with-next .ensures in
+    (c .past-row .ensures .0 ∙ pair-value _ _ _ _ (p .0) (p .3) (p .5) e _, c .past-row .ensures .1 ∙ pair-half _ _ _ _ (p .0) (p .3) (p .5) e _)
 
 div-with-next : tie.Need-div-with-next
 div-with-next c = search needs

@@ -1,11 +1,11 @@
 -- `steps::approximate_l` meets its contract. Assumes nothing.
 use borrow.Author.Needs.{needs}
-use Rattle.steps.specs.Steps.{approximateL}
+use Rattle.steps.specs.Steps.{approximateL, approximateLHalf}
 use Rattle.steps.proofs.approximate_l.Statement.{statement}
 use Rattle.steps.proofs.approximate_l.Tie as tie
 
 returns : tie.Need-returns
-unfolding approximateL
+unfolding approximateL approximateLHalf
 returns c = c .nearest-size .ensures
 
 mul-nearest-size : tie.Need-mul-nearest-size

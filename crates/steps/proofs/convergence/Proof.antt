@@ -4,10 +4,11 @@ use lib.Dec.{lit<, lit≤}
 use lib.IntN.{pos}
 use mir.Syntax.{w64}
 use mir.Val.{ofZ}
-use Rattle.steps.specs.Steps.{convergence}
+use Rattle.steps.specs.Steps.{convergence, convergenceHalf}
 use Rattle.figures.specs.Ranges.{mostM, mostWord}
 use Rattle.figures.proofs.Holds.{Holds, held, held-size, product-fits, product, size-most}
 use Rattle.figures.proofs.Rounding.{rounded}
+use Rattle.figures.proofs.Halves.{marked}
 use Rattle.steps.proofs.convergence.Statement.{statement}
 use Rattle.steps.proofs.convergence.Tie as tie
 
@@ -19,8 +20,10 @@ module _ (c : tie.Start) where
   x = held (c .fits .x) (c .pre .1)
 
 returns : tie.Need-returns
-unfolding convergence
-returns c = rounded 100_000_000 (product (m (c .before)) (x (c .before)) tt) (c .nearest .ok) (c .nearest .ensures)
+unfolding convergence convergenceHalf
+returns c =
+    let whole = product (m (c .before)) (x (c .before)) tt in
+    (rounded 100_000_000 whole (c .nearest .ensures .0), marked 100_000_000 whole (c .nearest .ensures .1))
 
 cast-nearest : tie.Need-cast-nearest
 cast-nearest c = search needs

@@ -1,10 +1,11 @@
 -- `steps::per_second` meets its contract. Assumes nothing.
 use borrow.Author.Needs.{needs}
+use mathlib.Core.Path.{_≡_, _∙_}
 use lib.Dec.{lit<, lit≤}
 use Prim.Native.Nat.{_+_}
 use lib.IntN.{pos}
 use mir.Syntax.{w64}
-use mir.Val.{ofZ}
+use mir.Val.{toZ, ofZ}
 use Rattle.steps.specs.Steps.{perSecond}
 use Rattle.figures.specs.Ranges.{mostWord, mostScale}
 use Rattle.figures.proofs.Holds.{Holds, held, held-size, product-fits, product, size-most}
@@ -21,7 +22,10 @@ module _ (c : tie.Start) where
 
 returns : tie.Need-returns
 unfolding perSecond
-returns c = rounded 60 (product (scale (c .before)) (difference (c .before)) tt) (c .nearest .ok) (c .nearest .ensures)
+returns c =
+    let start = c .before .before in
+    let value : toZ w64 (ofZ w64 (c .before .nearest .result .value)) ≡ c .before .nearest .result .value = search needs in
+    value ∙ rounded 60 (product (scale start) (difference start) tt) (c .before .nearest .ensures .0)
 
 cast-nearest : tie.Need-cast-nearest
 cast-nearest c = search needs

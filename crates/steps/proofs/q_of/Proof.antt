@@ -2,7 +2,7 @@
 use native.Mathlib.Omega.{arith}
 use lib.Dec.{lit<, lit≤}
 use Prim.Native.Nat.{_*_, _≤_}
-use Rattle.steps.specs.Steps.{qOf}
+use Rattle.steps.specs.Steps.{qOf, qHalf}
 use Rattle.figures.specs.Ranges.{mostS}
 use Rattle.figures.proofs.Sizes.{product-most}
 use Rattle.steps.proofs.q_of.Statement.{statement}
@@ -12,7 +12,7 @@ square-small : (c : tie.Start) → c .args .s * c .args .s ≤ mostS * mostS
 square-small c = product-most mostS mostS (c .pre) (c .pre)
 
 returns : tie.Need-returns
-unfolding qOf
+unfolding qOf qHalf
 returns c = c .nearest-size .ensures
 
 mul-nearest-size : tie.Need-mul-nearest-size

@@ -2,20 +2,22 @@
 use borrow.Author.Needs.{needs, sfits-of}
 use native.Mathlib.Omega.{arith}
 use native.Mathlib.Nat.{le-trans}
-use lib.Dec.{lit<, lit≤}
-use mathlib.Core.Path.{sym, ap, _∙_}
+use lib.Dec.{eqb, lit<, lit≤}
+use mathlib.Core.Path.{_≡_, sym, ap, _∙_}
+use mathlib.Core.Bool.{Bool, _&&_}
 use Prim.Native.Nat.{ℕ, _+_, _*_, _/_, _%_, _≤_}
 use lib.IntN.{ℤ, pos, _+ℤ_, _*ℤ_}
 use mir.Syntax.{w64}
-use mir.Val.{ofZ}
+use mir.Val.{toZ, ofZ}
 use mir.Facts.{toZ-ofZ}
-use Rattle.steps.specs.Steps.{reduction}
+use Rattle.steps.specs.Steps.{reduction, reductionHalf}
 use Rattle.steps.specs.Wide.{towardZero}
 use Rattle.figures.specs.Ranges.{mostP, mostX, mostD}
 use Rattle.figures.proofs.Sizes.{product-most}
 use Rattle.figures.proofs.Holds.{Holds, held, held-size, held-literal, sum-fits, sum, product-fits, product, size-most}
 use Rattle.figures.proofs.Rounding.{rounded}
-use Rattle.steps.proofs.Splitting.{size-toward, wide-nearest}
+use Rattle.figures.proofs.Halves.{marked}
+use Rattle.steps.proofs.Splitting.{size-toward, wide-nearest, wide-half}
 use Rattle.steps.proofs.reduction.Statement.{statement}
 use Rattle.steps.proofs.reduction.Tie as tie
 
@@ -55,11 +57,17 @@ dropped c =
     record { is = toZ-ofZ (sfits-of (c .toward-zero .ok)) ∙ e; size = k }
 
 returns : tie.Need-returns
-unfolding reduction
+unfolding reduction reductionHalf
 returns c =
-    let a = c .before .before .args in
-    rounded 61_035_156_250 (dropped (c .before)) (c .nearest .ok) (c .nearest .ensures)
-    ∙ sym (wide-nearest (a .p) (a .x * a .x) 16_384 30_517_578_125 (a .d) (lit< tt) (lit< tt))
+    let worked = c .before .before in
+    let a = worked .before .before .args in
+    let value : toZ w64 (ofZ w64 (worked .nearest .result .value)) ≡ worked .nearest .result .value = search needs in (
+      value
+          ∙ rounded 61_035_156_250 (dropped (worked .before)) (worked .nearest .ensures .0)
+          ∙ sym (wide-nearest (a .p) (a .x * a .x) 16_384 30_517_578_125 (a .d) (lit< tt) (lit< tt)),
+      ap (λ (h : Bool). h && eqb (low (worked .before .before) % 16_384) 0) (marked 61_035_156_250 (dropped (worked .before)) (worked .nearest .ensures .1))
+          ∙ sym (wide-half (a .p) (a .x * a .x) 16_384 30_517_578_125 (a .d) (lit< tt) (lit< tt)),
+    )
 
 mul-square : tie.Need-mul-square
 mul-square c = omega (arith, square-small c)

@@ -5,11 +5,12 @@ use Prim.Native.Nat.{_*_, _≤_}
 use lib.IntN.{pos}
 use mir.Syntax.{w64}
 use mir.Val.{ofZ}
-use Rattle.steps.specs.Steps.{rise}
+use Rattle.steps.specs.Steps.{rise, riseHalf}
 use Rattle.figures.specs.Ranges.{mostV, mostQ, mostC}
 use Rattle.figures.proofs.Sizes.{product-most}
 use Rattle.figures.proofs.Holds.{Holds, held, held-size, held-literal, sum-fits, sum, product-fits, product, size-most}
 use Rattle.figures.proofs.Rounding.{rounded}
+use Rattle.figures.proofs.Halves.{marked}
 use Rattle.steps.proofs.rise.Statement.{statement}
 use Rattle.steps.proofs.rise.Tie as tie
 
@@ -27,10 +28,11 @@ module _ (c : tie.Start) where
   million = held-literal w64 1_000_000 tt
 
 returns : tie.Need-returns
-unfolding rise
+unfolding rise riseHalf
 returns c =
     let b = c .before in
-    rounded 10_000_000 (sum (vq b) (product (figure-c b) (million b) tt) tt) (c .nearest .ok) (c .nearest .ensures)
+    let whole = sum (vq b) (product (figure-c b) (million b) tt) tt in
+    (rounded 10_000_000 whole (c .nearest .ensures .0), marked 10_000_000 whole (c .nearest .ensures .1))
 
 mul-nearest : tie.Need-mul-nearest
 mul-nearest c = omega (arith, vq-small c)

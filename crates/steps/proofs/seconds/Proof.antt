@@ -1,7 +1,7 @@
 -- `steps::seconds` meets its contract. Assumes nothing.
 use native.Mathlib.Omega.{arith}
 use Prim.Native.Nat.{_*_, _≤_}
-use Rattle.steps.specs.Steps.{seconds}
+use Rattle.steps.specs.Steps.{seconds, secondsHalf}
 use Rattle.figures.specs.Ranges.{mostStep, mostGap}
 use Rattle.figures.proofs.Sizes.{product-most}
 use Rattle.steps.proofs.seconds.Statement.{statement}
@@ -11,7 +11,7 @@ product-small : (c : tie.Start) → c .args .span * c .args .past ≤ mostStep *
 product-small c = product-most mostStep mostGap (c .pre .0) (c .pre .1)
 
 returns : tie.Need-returns
-unfolding seconds
+unfolding seconds secondsHalf
 returns c = c .nearest-size .ensures
 
 mul-nearest-size : tie.Need-mul-nearest-size

@@ -7,11 +7,12 @@ use lib.IntN.{pos, _-ℤ_, _*ℤ_}
 use lib.Signed.{nonNeg}
 use mir.Syntax.{w64}
 use mir.Val.{toZ, ofZ}
-use Rattle.steps.specs.Steps.{sizeOfL}
+use Rattle.steps.specs.Steps.{sizeOfL, sizeOfLHalf}
 use Rattle.figures.specs.Ranges.{mostX, mostA, mostB}
 use Rattle.figures.proofs.Sizes.{times-nonNeg}
 use Rattle.figures.proofs.Holds.{Holds, held, held-size, held-literal, difference-fits, difference, product-fits, product, size-most, unsigned-fits}
 use Rattle.figures.proofs.Rounding.{rounded-size}
+use Rattle.figures.proofs.Halves.{marked-size}
 use Rattle.steps.proofs.size_of_l.Statement.{statement}
 use Rattle.steps.proofs.size_of_l.Tie as tie
 
@@ -38,8 +39,10 @@ module _ (c : tie.Start) where
   not-negative = times-nonNeg (pos (c .args .x * 10_000) -ℤ c .args .a *ℤ c .args .b) 1_000 (c .pre .5)
 
 returns : tie.Need-returns
-unfolding sizeOfL
-returns c = let d = c .before in rounded-size (d .args .h) (whole d) (not-negative d) (c .nearest-size .ensures)
+unfolding sizeOfL sizeOfLHalf
+returns c =
+    let d = c .before in
+    (rounded-size (d .args .h) (whole d) (not-negative d) (c .nearest-size .ensures .0), marked-size (d .args .h) (whole d) (c .nearest-size .ensures .1))
 
 mul-rest : tie.Need-mul-rest
 mul-rest c = search needs

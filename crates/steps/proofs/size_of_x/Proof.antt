@@ -5,11 +5,12 @@ use lib.Dec.{lit<, lit≤}
 use lib.IntN.{pos, _+ℤ_, _*ℤ_}
 use mir.Syntax.{w64}
 use mir.Val.{toZ, ofZ}
-use Rattle.steps.specs.Steps.{sizeOfX}
+use Rattle.steps.specs.Steps.{sizeOfX, sizeOfXHalf}
 use Rattle.figures.specs.Ranges.{mostH, mostS, mostA, mostB}
 use Rattle.figures.proofs.Sizes.{product-most}
 use Rattle.figures.proofs.Holds.{Holds, held, held-size, held-literal, sum-fits, sum, product-fits, product, size-most, unsigned-fits}
 use Rattle.figures.proofs.Rounding.{rounded-size}
+use Rattle.figures.proofs.Halves.{marked-size}
 use Rattle.steps.proofs.size_of_x.Statement.{statement}
 use Rattle.steps.proofs.size_of_x.Tie as tie
 
@@ -36,8 +37,10 @@ module _ (c : tie.Start) where
   whole = sum hs (product (product a b tt) thousand tt) tt
 
 returns : tie.Need-returns
-unfolding sizeOfX
-returns c = rounded-size 10_000_000 (whole (c .before)) (c .before .pre .4) (c .nearest-size .ensures)
+unfolding sizeOfX sizeOfXHalf
+returns c =
+    let b = c .before in
+    (rounded-size 10_000_000 (whole b) (b .pre .4) (c .nearest-size .ensures .0), marked-size 10_000_000 (whole b) (c .nearest-size .ensures .1))
 
 mul-sum : tie.Need-mul-sum
 mul-sum c = omega (arith, hs-small c)

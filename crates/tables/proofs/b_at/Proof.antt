@@ -1,15 +1,17 @@
 -- `tables::b_at` meets its contract. Assumes nothing.
-use Rattle.tables.specs.Figures.{bAt}
+use Rattle.tables.specs.Figures.{bAt, bHalf}
 use Rattle.tables.proofs.Ranges.{b-between}
 use Rattle.tables.proofs.ByName.{longitude-place}
-use Rattle.tables.proofs.Answers.{signed-is}
 use borrow.Author.Needs.{needs}
 use Rattle.tables.proofs.b_at.Statement.{statement}
 use Rattle.tables.proofs.b_at.Tie as tie
 
 returns : tie.Need-returns
-unfolding bAt
-returns c = let p = c .before .before .pre in signed-is (c .figure-at .ok) (c .figure-at .ensures) (b-between _ (p .0) _ (p .2))
+unfolding bAt bHalf
+returns c =
+    let p = c .before .before .pre in
+    let e = c .figure-at .ensures .0 in
+    (e, rw e (b-between _ (p .0) _ (p .2)), c .figure-at .ensures .1)
 
 figure-at-requires : tie.Need-figure-at-requires
 figure-at-requires c κs = search (longitude-place, needs)

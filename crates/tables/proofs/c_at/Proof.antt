@@ -1,15 +1,17 @@
 -- `tables::c_at` meets its contract. Assumes nothing.
-use Rattle.tables.specs.Figures.{cAt}
+use Rattle.tables.specs.Figures.{cAt, cHalf}
 use Rattle.tables.proofs.Ranges.{c-between}
 use Rattle.tables.proofs.ByName.{longitude-place}
-use Rattle.tables.proofs.Answers.{signed-is}
 use borrow.Author.Needs.{needs}
 use Rattle.tables.proofs.c_at.Statement.{statement}
 use Rattle.tables.proofs.c_at.Tie as tie
 
 returns : tie.Need-returns
-unfolding cAt
-returns c = let p = c .before .before .pre in signed-is (c .figure-at .ok) (c .figure-at .ensures) (c-between _ (p .0) _ (p .2))
+unfolding cAt cHalf
+returns c =
+    let p = c .before .before .pre in
+    let e = c .figure-at .ensures .0 in
+    (e, rw e (c-between _ (p .0) _ (p .2)), c .figure-at .ensures .1)
 
 figure-at-requires : tie.Need-figure-at-requires
 figure-at-requires c κs = search (longitude-place, needs)

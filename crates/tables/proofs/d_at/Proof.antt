@@ -1,15 +1,17 @@
 -- `tables::d_at` meets its contract. Assumes nothing.
-use Rattle.tables.specs.Figures.{dAt}
+use Rattle.tables.specs.Figures.{dAt, dHalf}
 use Rattle.tables.proofs.Ranges.{d-between}
 use Rattle.tables.proofs.ByName.{easting-place}
-use Rattle.tables.proofs.Answers.{signed-is}
 use borrow.Author.Needs.{needs}
 use Rattle.tables.proofs.d_at.Statement.{statement}
 use Rattle.tables.proofs.d_at.Tie as tie
 
 returns : tie.Need-returns
-unfolding dAt
-returns c = let p = c .before .before .pre in signed-is (c .figure-at .ok) (c .figure-at .ensures) (d-between _ (p .0) _ (p .2))
+unfolding dAt dHalf
+returns c =
+    let p = c .before .before .pre in
+    let e = c .figure-at .ensures .0 in
+    (e, rw e (d-between _ (p .0) _ (p .2)), c .figure-at .ensures .1)
 
 figure-at-requires : tie.Need-figure-at-requires
 figure-at-requires c κs = search (easting-place, needs)

@@ -1,5 +1,5 @@
 -- `tables::p_at` meets its contract. Assumes nothing.
-use Rattle.tables.specs.Figures.{pAt}
+use Rattle.tables.specs.Figures.{pAt, pHalf}
 use Rattle.tables.proofs.Ranges.{p-between, p-rows}
 use Rattle.tables.proofs.ByName.{northing-place}
 use Rattle.tables.proofs.Answers.{read-is, read-high}
@@ -8,11 +8,12 @@ use Rattle.tables.proofs.p_at.Statement.{statement}
 use Rattle.tables.proofs.p_at.Tie as tie
 
 returns : tie.Need-returns
-unfolding pAt
+unfolding pAt pHalf
 returns c =
     let p = c .before .before .pre in
     let h = p-between _ (p .0) _ (p .2) in
-    (read-is (c .size-at .ensures) h, read-high (c .size-at .ensures) h)
+    let e = c .size-at .ensures .0 in
+    (read-is e h, read-high e h, c .size-at .ensures .1)
 
 size-at-requires : tie.Need-size-at-requires
 size-at-requires c κs = search (northing-place, p-rows, needs)

@@ -33,10 +33,11 @@ northing-is c = c .northing-known .ensures ∙ ap (northingKnown _) (y-is (c .be
 
 reduced-is : (c : tie.After-reduced-northing)
     → let args = c .before .before .before .before .before .before .before .before .args in
-    toZ w64 (ofZ w64 (c .reduced-northing .result)) ≡ reducedNorthing (now (args .s)) (natAbs (xPrime (now (args .s)) (args .x))) (args .y)
+    toZ w64 (ofZ w64 (c .reduced-northing .result .value)) ≡ reducedNorthing (now (args .s)) (natAbs (xPrime (now (args .s)) (args .x))) (args .y)
 reduced-is c =
     let size = c .before .size .ensures ∙ ap natAbs (xp-is (c .before .before .before .before .before .before)) in
-    bits-is (c .reduced-northing .ok) ∙ c .reduced-northing .ensures .0 ∙ rw (size, y-is (c .before .before .before .before .before .before .before .before))
+    let bits : toZ w64 (ofZ w64 (c .reduced-northing .result .value)) ≡ c .reduced-northing .result .value = search needs in
+    bits ∙ c .reduced-northing .ensures .0 ∙ rw (size, y-is (c .before .before .before .before .before .before .before .before))
 
 returns : tie.Need-returns
 unfolding inverseTouched
@@ -49,7 +50,7 @@ returns-2 c = go _ _ _ _ _ (easting-known-is (c .before .before .before)) (c .be
 returns-3 : tie.Need-returns-3
 unfolding inverseTouched
 returns-3 c =
-    let found = c .before .before in
+    let found = c .before .before .before in
     go _ _ _ _ _ (easting-known-is (found .before .before .before .before .before)) (found .before .before .before .before .if1 .left)
     (go _ _ _ _ _ (northing-is (found .before .before .before)) (found .before .before .if2 .left)
     (beside-is _ _ _ _ (reduced-is found) _ _ (c .before .above-prior .ensures) (c .below-next .ensures)))
