@@ -1,4 +1,5 @@
 -- What a C function answers: the operation's own answer, field by field.
+use mathlib.Core.Bool.{Bool}
 use Prim.Native.Nat.{ℕ}
 use lib.IntN.{ℤ}
 use Rattle.contents.specs.declared.Verdict.{Verdict}
@@ -9,7 +10,7 @@ use Rattle.touched.specs.declared.Touch.{Touch}
 use Rattle.batch.specs.declared.Batched.{Batched}
 use Rattle.door.specs.declared.Point.{Point}
 use Rattle.door.specs.declared.Answer.{Answer}
-use Rattle.door.specs.Door.{numberOf, firstOf, secondOf}
+use Rattle.door.specs.Door.{numberOf, firstOf, secondOf, halfOf}
 use Rattle.capi.specs.declared.CheckAnswer.{CheckAnswer}
 use Rattle.capi.specs.declared.PlaneAnswer.{PlaneAnswer}
 use Rattle.capi.specs.declared.GeographicAnswer.{GeographicAnswer}
@@ -23,24 +24,24 @@ use Rattle.capi.specs.declared.DoorAnswer.{DoorAnswer}
 abbrev pub checkAnswer : Verdict → CheckAnswer
 checkAnswer v = record { number = v .number; kind = v .kind; row = v .row }
 
--- Each conversion's number and its two values.
-abbrev pub plane : ℕ → ℤ → ℤ → PlaneAnswer
-plane number x y = record { number = number; x = x; y = y }
+-- Each conversion's number, its two values, and whether some rounding met a half.
+abbrev pub plane : ℕ → ℤ → ℤ → Bool → PlaneAnswer
+plane number x y half = record { number = number; x = x; y = y; half = half }
 
 abbrev pub planeAnswer : Plane → PlaneAnswer
-planeAnswer r = plane (r .number) (r .x) (r .y)
+planeAnswer r = plane (r .number) (r .x) (r .y) (r .half)
 
-abbrev pub geographic : ℕ → ℤ → ℤ → GeographicAnswer
-geographic number latitude longitude = record { number = number; latitude = latitude; longitude = longitude }
+abbrev pub geographic : ℕ → ℤ → ℤ → Bool → GeographicAnswer
+geographic number latitude longitude half = record { number = number; latitude = latitude; longitude = longitude; half = half }
 
 abbrev pub geographicAnswer : Geographic → GeographicAnswer
-geographicAnswer r = geographic (r .number) (r .latitude) (r .longitude)
+geographicAnswer r = geographic (r .number) (r .latitude) (r .longitude) (r .half)
 
-abbrev pub grid : ℕ → ℤ → ℤ → GridAnswer
-grid number convergence scale = record { number = number; convergence = convergence; scale = scale }
+abbrev pub grid : ℕ → ℤ → ℤ → Bool → GridAnswer
+grid number convergence scale half = record { number = number; convergence = convergence; scale = scale; half = half }
 
 abbrev pub gridAnswer : Grid → GridAnswer
-gridAnswer r = grid (r .number) (r .convergence) (r .scale)
+gridAnswer r = grid (r .number) (r .convergence) (r .scale) (r .half)
 
 -- Whether a correction may touch a point.
 abbrev pub touchAnswer : Touch → TouchAnswer
@@ -54,6 +55,6 @@ batchAnswer b = record { number = b .number; count = b .count }
 abbrev pub doorPoint : DoorPoint → Point
 doorPoint p = record { first = p .first; second = p .second }
 
--- "and get two f64 counts or a refusal number": the door's number and values for each of its cases; a refusal has zeros.
+-- "and get two f64 counts or a refusal number": the door's number, values and mark for each of its cases; a refusal has zeros and no half.
 unfoldable pub doorAnswer : Answer → DoorAnswer
-doorAnswer r = record { number = numberOf r; first = firstOf r; second = secondOf r }
+doorAnswer r = record { number = numberOf r; first = firstOf r; second = secondOf r; half = halfOf r }

@@ -20,12 +20,13 @@ pub struct CheckAnswer {
     pub row: usize,
 }
 
-// x and y in 0.01 ft.
+// x and y in 0.01 ft. half, here and below: some rounding on the way to the values met a half; not in a refusal.
 #[repr(C)]
 pub struct PlaneAnswer {
     pub number: u32,
     pub x: i32,
     pub y: i32,
+    pub half: bool,
 }
 
 // Latitude and west longitude in 0.001″.
@@ -34,6 +35,7 @@ pub struct GeographicAnswer {
     pub number: u32,
     pub latitude: i32,
     pub longitude: i32,
+    pub half: bool,
 }
 
 // Convergence in 0.1″, scale in 10⁻⁷.
@@ -42,6 +44,7 @@ pub struct GridAnswer {
     pub number: u32,
     pub convergence: i32,
     pub scale: i32,
+    pub half: bool,
 }
 
 #[repr(C)]
@@ -69,6 +72,7 @@ pub struct DoorAnswer {
     pub number: u32,
     pub first: f64,
     pub second: f64,
+    pub half: bool,
 }
 
 // ---- the check and the conversions
@@ -98,6 +102,7 @@ pub extern "C" fn bannerscale_geographic_to_plane(
         number: r.number,
         x: r.x,
         y: r.y,
+        half: r.half,
     }
 }
 
@@ -110,6 +115,7 @@ pub extern "C" fn bannerscale_plane_to_geographic(sheet: &[u8], x: i32, y: i32) 
         number: r.number,
         latitude: r.latitude,
         longitude: r.longitude,
+        half: r.half,
     }
 }
 
@@ -122,6 +128,7 @@ pub extern "C" fn bannerscale_convergence_and_scale(sheet: &[u8], x: i32, y: i32
         number: r.number,
         convergence: r.convergence,
         scale: r.scale,
+        half: r.half,
     }
 }
 
@@ -209,15 +216,17 @@ fn told(answer: Answer) -> DoorAnswer
     ensures { λ r. ⌜ r ≡ doorAnswer answer ⌝ }
 {
     match answer {
-        Answer::Counts(a, b) => DoorAnswer {
+        Answer::Counts(a, b, half) => DoorAnswer {
             number: 0,
             first: a,
             second: b,
+            half,
         },
         Answer::Refused(n) => DoorAnswer {
             number: n,
             first: 0.0,
             second: 0.0,
+            half: false,
         },
     }
 }

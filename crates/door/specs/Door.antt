@@ -29,26 +29,27 @@ both (Whole.Count a) (Whole.Count b) = Pair.Of a b
 abbrev pub countsOf : Point → Pair
 countsOf p = both (wholeOf (p .first)) (wholeOf (p .second))
 
--- "and get two f64 counts or a refusal number": a conversion's number and its two values, as the tools get them.
+-- "and get two f64 counts or a refusal number", and "the f64 answers carry it": a conversion's number, its two values and whether it met a half, as the tools get them.
 unfoldable pub answerOf : ℕ → ℤ → ℤ → Bool → Answer
 answerOf number a b half = need (eqb number 0) (Refused number) (Counts (float a) (float b) half)
 
 -- "Where an answer is an enum, a definition gives this paper's number and values for each of its cases": counts are "0 accepted", and "A refused conversion carries zeros."
+-- The mark of each case comes last.
 abbrev pub numberOf : Answer → ℕ
-numberOf (Counts a b h) = 0
+numberOf (Counts a b half) = 0
 numberOf (Refused n) = n
 
 abbrev pub firstOf : Answer → Float
-firstOf (Counts a b h) = a
+firstOf (Counts a b half) = a
 firstOf (Refused n) = float (pos 0)
 
 abbrev pub secondOf : Answer → Float
-secondOf (Counts a b h) = b
+secondOf (Counts a b half) = b
 secondOf (Refused n) = float (pos 0)
 
 -- "some rounding in it met a half (no in a refusal)"
 abbrev pub halfOf : Answer → Bool
-halfOf (Counts a b h) = h
+halfOf (Counts a b half) = half
 halfOf (Refused n) = false
 
 -- "15 is answered before the sheet is looked at": `convert` is what looks at it, and is asked only where both floats are counts.

@@ -1,4 +1,4 @@
-// The tools' door: drawing tools hand over a point as two f64 counts, and get two f64 counts or a refusal number. Where a float is no count the answer is 15, whatever the
+// The tools' door: drawing tools hand over a point as two f64 counts, and get two f64 counts, with whether some rounding met a half, or a refusal number. Where a float is no count the answer is 15, whatever the
 // sheet: it is not looked at. All else is what the conversions of `convert` answer. A count of 0.01 ft is given in feet besides.
 use counts::Whole;
 ghost use mathlib.Core.Path.{_≡_};
@@ -10,7 +10,8 @@ pub struct Point {
     pub second: f64,
 }
 
-// What the tools get: two counts, in the order and the units that the function names, or a refusal number. A count of zero is +0.
+// What the tools get: two counts, in the order and the units that the function names, and whether some rounding on the way to them met a half; or a refusal number.
+// A count of zero is +0.
 pub enum Answer {
     Counts(f64, f64, bool),
     Refused(u32),
@@ -35,7 +36,7 @@ fn counts_of(p: Point) -> Pair
     Pair::Of(a, b)
 }
 
-// A conversion's number and two values, as the tools get them: the number where it is not 0, else the values as floats.
+// A conversion's number, its two values and whether it met a half, as the tools get them: the number where it is not 0, else the values as floats, and the mark.
 fn answer_of(number: u32, a: i32, b: i32, half: bool) -> Answer
     ensures { λ r. ⌜ r ≡ answerOf number a b half ⌝ }
 {

@@ -208,9 +208,9 @@ module _ (s : List ℕ) (passes : Passes s) (minute : ℤ) (f : Figures) where
           door-plane = λ p. ap (λ (u : List ℕ). toPlane u p) (writes accepted) ∙ same-door (countsOf p) _ _ (λ north west. ap planeAnswer (plane-steps t ok′ north west));
           door-geographic = λ p. ap (λ (u : List ℕ). toGeographic u p) (writes accepted) ∙ same-door (countsOf p) _ _ (λ x y. ap geographicAnswer (earth-steps t ok′ x y));
           door-grid = λ p. ap (λ (u : List ℕ). toGrid u p) (writes accepted) ∙ same-door (countsOf p) _ _ (λ x y. ap gridAnswer (grid-steps t ok′ x y));
-          told-plane = rw (writes accepted) (tells-as (toPlane t) (geographicToPlane t) (forwardOf t) (λ a. a .number) (λ a. a .x) (λ a. a .y) (plane-steps t ok′) (plane-tells t));
-          told-geographic = rw (writes accepted) (tells-as (toGeographic t) (planeToGeographic t) (inverseOf t) (λ a. a .number) (λ a. a .latitude) (λ a. a .longitude) (earth-steps t ok′) (geographic-tells t));
-          told-grid = rw (writes accepted) (tells-as (toGrid t) (convergenceAndScale t) (gridOf t) (λ a. a .number) (λ a. a .convergence) (λ a. a .scale) (grid-steps t ok′) (grid-tells t));
+          told-plane = rw (writes accepted) (tells-as (toPlane t) (geographicToPlane t) (forwardOf t) (λ a. a .number) (λ a. a .x) (λ a. a .y) (λ a. a .half) (plane-steps t ok′) (plane-tells t));
+          told-geographic = rw (writes accepted) (tells-as (toGeographic t) (planeToGeographic t) (inverseOf t) (λ a. a .number) (λ a. a .latitude) (λ a. a .longitude) (λ a. a .half) (earth-steps t ok′) (geographic-tells t));
+          told-grid = rw (writes accepted) (tells-as (toGrid t) (convergenceAndScale t) (gridOf t) (λ a. a .number) (λ a. a .convergence) (λ a. a .scale) (λ a. a .half) (grid-steps t ok′) (grid-tells t));
         }
 
     -- ---- the answers that stay
@@ -245,7 +245,7 @@ module _ (s : List ℕ) (passes : Passes s) (minute : ℤ) (f : Figures) where
 
     -- what the door tells
     same-told : {a b : Answer} → a ≡ b → SameTold a b
-    same-told e = record { whole = e; numbered = ap door.numberOf e; one = ap door.firstOf e; two = ap door.secondOf e }
+    same-told e = record { whole = e; numbered = ap door.numberOf e; one = ap door.firstOf e; two = ap door.secondOf e; marked = ap door.halfOf e }
 
     pub locally : Local s minute f
     locally =

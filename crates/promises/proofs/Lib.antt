@@ -1,7 +1,9 @@
 -- The theorems that belong to no one function.
 pub mod NearestIsNearest
+pub mod HalfIsHalf
 pub mod OneAnswer
 pub mod AnswersFit
+pub mod Refused
 pub mod Counts
 pub mod SizesAndSigns
 pub mod Corrections

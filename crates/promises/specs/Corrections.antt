@@ -28,7 +28,7 @@ use Rattle.door.specs.declared.Point.{Point}
 use Rattle.counts.specs.Whole.{wholeOf}
 use Rattle.counts.specs.Whole as counts
 use Rattle.door.specs.declared.Answer.{Answer}
-use Rattle.door.specs.Door.{numberOf, firstOf, secondOf, countsOf, doorOf, planeAnswer, geographicAnswer, gridAnswer, toPlane, toGeographic, toGrid}
+use Rattle.door.specs.Door.{numberOf, firstOf, secondOf, halfOf, countsOf, doorOf, planeAnswer, geographicAnswer, gridAnswer, toPlane, toGeographic, toGrid}
 use Rattle.door.specs.Meaning.{Tells}
 
 -- "A pass is 0 0 0."
@@ -63,12 +63,13 @@ FarPlane s minute x y =
 abbrev pub OfCounts : Point → (ℤ → ℤ → Type 0) → Type 0
 OfCounts p Far = counts.numberOf (wholeOf (p .first)) ≡ 0 → counts.numberOf (wholeOf (p .second)) ≡ 0 → Far (counts.valueOf (wholeOf (p .first))) (counts.valueOf (wholeOf (p .second)))
 
--- Two answers of the door are the same, and so are the paper's number and values of them.
+-- Two answers of the door are the same, and so are the paper's number and values of them, and their marks.
 pub record SameTold (a b : Answer) : Type 0 where
   pub whole : a ≡ b
   pub numbered : numberOf a ≡ numberOf b
   pub one : firstOf a ≡ firstOf b
   pub two : secondOf a ≡ secondOf b
+  pub marked : halfOf a ≡ halfOf b
 
 -- ---- the correction itself
 pub record Corrects (s : List ℕ) (minute : ℤ) (f : Figures) : Type 0 where
@@ -89,7 +90,7 @@ pub record Afresh (s : List ℕ) (minute : ℤ) (f : Figures) : Type 0 where
   -- The row has the new figures, and every other row its own.
   pub new-figures : figuresAt (bodyOf (correctedOf s minute f) latitude) (rowNamed s minute) ≡ f
   pub old-figures : (i : ℕ) → (i ≡ rowNamed s minute → ⊥) → figuresAt (bodyOf (correctedOf s minute f) latitude) i ≡ figuresAt (bodyOf s latitude) i
-  -- "the answers must be those worked afresh": each conversion is the Survey's steps on the corrected sheet.
+  -- "the answers must be those worked afresh": each conversion, its mark included, is the Survey's steps on the corrected sheet.
   pub forward : (north west : ℤ) → geographicToPlane (correctedOf s minute f) north west ≡ forwardOf (putIn s minute f) north west
   pub inverse : (x y : ℤ) → planeToGeographic (correctedOf s minute f) x y ≡ inverseOf (putIn s minute f) x y
   pub grid : (x y : ℤ) → convergenceAndScale (correctedOf s minute f) x y ≡ gridOf (putIn s minute f) x y
@@ -103,13 +104,16 @@ pub record Afresh (s : List ℕ) (minute : ℤ) (f : Figures) : Type 0 where
   pub door-plane : (p : Point) → toPlane (correctedOf s minute f) p ≡ doorOf (countsOf p) (λ north west. planeAnswer (forwardOf (putIn s minute f) north west))
   pub door-geographic : (p : Point) → toGeographic (correctedOf s minute f) p ≡ doorOf (countsOf p) (λ x y. geographicAnswer (inverseOf (putIn s minute f) x y))
   pub door-grid : (p : Point) → toGrid (correctedOf s minute f) p ≡ doorOf (countsOf p) (λ x y. gridAnswer (gridOf (putIn s minute f) x y))
-  -- In the paper's number and values of each case of its answer: those of the steps, where both floats are counts, else 15 and zeros.
+  -- In the paper's number and values of each case of its answer, and its mark: those of the steps, where both floats are counts, else 15, zeros and no half.
   pub told-plane : let steps = forwardOf (putIn s minute f) in Tells (toPlane (correctedOf s minute f)) (λ north west. steps north west .number) (λ north west. steps north west .x) (λ north west. steps north west .y)
+      (λ north west. steps north west .half)
   pub told-geographic : let steps = inverseOf (putIn s minute f) in Tells (toGeographic (correctedOf s minute f)) (λ x y. steps x y .number) (λ x y. steps x y .latitude) (λ x y. steps x y .longitude)
+      (λ x y. steps x y .half)
   pub told-grid : let steps = gridOf (putIn s minute f) in Tells (toGrid (correctedOf s minute f)) (λ x y. steps x y .number) (λ x y. steps x y .convergence) (λ x y. steps x y .scale)
+      (λ x y. steps x y .half)
 
 pub record Local (s : List ℕ) (minute : ℤ) (f : Figures) : Type 0 where
-  -- "no point outside the two intervals beside that row changes": the whole answer, refusals included.
+  -- "no point outside the two intervals beside that row changes": the whole answer, refusals and marks included.
   pub forward : (north west : ℤ) → FarLatitude minute north → geographicToPlane (correctedOf s minute f) north west ≡ geographicToPlane s north west
   pub inverse : (x y : ℤ) → FarPlane s minute x y → planeToGeographic (correctedOf s minute f) x y ≡ planeToGeographic s x y
   -- Convergence and scale never change.
@@ -122,7 +126,7 @@ pub record Local (s : List ℕ) (minute : ℤ) (f : Figures) : Type 0 where
   pub door-geographic : (p : Point) → OfCounts p (FarPlane s minute) → SameTold (toGeographic (correctedOf s minute f) p) (toGeographic s p)
   pub door-grid : (p : Point) → SameTold (toGrid (correctedOf s minute f) p) (toGrid s p)
 
--- "Which of my four thousand points do I redo?" Where the answer is no, the point's answer is as before; and the question may be put to the old sheet or to the new.
+-- "Which of my four thousand points do I redo?" Where the answer is no, the point's answer, its mark included, is as before; and the question may be put to the old sheet or to the new.
 pub record Untouched (s : List ℕ) (minute : ℤ) (f : Figures) : Type 0 where
   pub forward : (north west : ℤ) → geographicTouched s minute north west ≡ touch 0 false → geographicToPlane (correctedOf s minute f) north west ≡ geographicToPlane s north west
   pub inverse : (x y : ℤ) → planeTouched s minute x y ≡ touch 0 false → planeToGeographic (correctedOf s minute f) x y ≡ planeToGeographic s x y

@@ -47,7 +47,7 @@ fn plane_minute(s: &[u8], p: Places, x: i32, y: i32) -> u64
     if !extent::northing_known(s, p, y) {
         return 0;
     }
-    let z = inverse::reduced_northing(s, p, figures::size(xp), y);
+    let z = inverse::reduced_northing(s, p, figures::size(xp), y).value;
     first_minute(s, p) + row_below(s, p, z) as u64
 }
 

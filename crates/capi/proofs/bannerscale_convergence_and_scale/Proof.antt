@@ -20,7 +20,7 @@ returns c =
     let two : toZ w32 (ofZ w32 (start .args .y)) ≡ start .args .y = search needs in
     let first : toZ w32 (ofZ w32 (r .convergence)) ≡ r .convergence = search needs in
     let second : toZ w32 (ofZ w32 (r .scale)) ≡ r .scale = search needs in
-    both-same (grid _) first second ∙ ap gridAnswer (c .before .convergence-and-scale .ensures ∙ both-same (convergenceAndScale _) one two)
+    both-same (λ a b. grid (r .number) a b (r .half)) first second ∙ ap gridAnswer (c .before .convergence-and-scale .ensures ∙ both-same (convergenceAndScale _) one two)
 
 pub bannerscale-convergence-and-scale-spec : {M : Type 1} → statement M
 bannerscale-convergence-and-scale-spec =

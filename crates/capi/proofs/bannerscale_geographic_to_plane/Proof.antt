@@ -20,7 +20,7 @@ returns c =
     let two : toZ w32 (ofZ w32 (start .args .longitude)) ≡ start .args .longitude = search needs in
     let first : toZ w32 (ofZ w32 (r .x)) ≡ r .x = search needs in
     let second : toZ w32 (ofZ w32 (r .y)) ≡ r .y = search needs in
-    both-same (plane _) first second ∙ ap planeAnswer (c .before .geographic-to-plane .ensures ∙ both-same (geographicToPlane _) one two)
+    both-same (λ a b. plane (r .number) a b (r .half)) first second ∙ ap planeAnswer (c .before .geographic-to-plane .ensures ∙ both-same (geographicToPlane _) one two)
 
 pub bannerscale-geographic-to-plane-spec : {M : Type 1} → statement M
 bannerscale-geographic-to-plane-spec = tie.close (tie.spec geographic-to-plane-requires returns)

@@ -20,7 +20,7 @@ returns c =
     let two : toZ w32 (ofZ w32 (start .args .y)) ≡ start .args .y = search needs in
     let first : toZ w32 (ofZ w32 (r .latitude)) ≡ r .latitude = search needs in
     let second : toZ w32 (ofZ w32 (r .longitude)) ≡ r .longitude = search needs in
-    both-same (geographic _) first second ∙ ap geographicAnswer (c .before .plane-to-geographic .ensures ∙ both-same (planeToGeographic _) one two)
+    both-same (λ a b. geographic (r .number) a b (r .half)) first second ∙ ap geographicAnswer (c .before .plane-to-geographic .ensures ∙ both-same (planeToGeographic _) one two)
 
 pub bannerscale-plane-to-geographic-spec : {M : Type 1} → statement M
 bannerscale-plane-to-geographic-spec = tie.close (tie.spec plane-to-geographic-requires returns)

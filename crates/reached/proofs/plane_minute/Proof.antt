@@ -37,15 +37,16 @@ northing-is c = c .northing-known .ensures ∙ ap (northingKnown _) (y-is (c .be
 
 reduced-is : (c : tie.After-reduced-northing)
     → let args = c .before .before .before .before .before .before .before .before .args in
-    toZ w64 (ofZ w64 (c .reduced-northing .result)) ≡ reducedNorthing (now (args .s)) (natAbs (xPrime (now (args .s)) (args .x))) (args .y)
+    toZ w64 (ofZ w64 (c .reduced-northing .result .value)) ≡ reducedNorthing (now (args .s)) (natAbs (xPrime (now (args .s)) (args .x))) (args .y)
 reduced-is c =
     let size = c .before .size .ensures ∙ ap natAbs (xp-is (c .before .before .before .before .before .before)) in
-    bits-is (c .reduced-northing .ok) ∙ c .reduced-northing .ensures .0 ∙ rw (size, y-is (c .before .before .before .before .before .before .before .before))
+    let bits : toZ w64 (ofZ w64 (c .reduced-northing .result .value)) ≡ c .reduced-northing .result .value = search needs in
+    bits ∙ c .reduced-northing .ensures .0 ∙ rw (size, y-is (c .before .before .before .before .before .before .before .before))
 
 -- the first minute and the row are small
 sum-most : (c : tie.After-row-below) → c .before .first-minute .result + c .row-below .result ≤ 6_600
 sum-most c =
-    let p = c .before .before .before .before .before .before .before .before .before .before .pre in
+    let p = c .before .before .before .before .before .before .before .before .before .before .before .pre in
     omega (arith, c .before .first-minute .ensures .1, c .row-below .ensures .1, count-small _ latitude (p .0) (lit≤ tt) (lit≤ tt))
 
 returns : tie.Need-returns
@@ -59,7 +60,7 @@ returns-2 c = (go _ _ _ _ _ (easting-known-is (c .before .before .before)) (c .b
 returns-3 : tie.Need-returns-3
 unfolding planeMinute
 returns-3 c =
-    let found = c .before .before in (
+    let found = c .before .before .before in (
       go _ _ _ _ _ (easting-known-is (found .before .before .before .before .before)) (found .before .before .before .before .if1 .left)
           (go _ _ _ _ _ (northing-is (found .before .before .before)) (found .before .before .if2 .left)
           (rw (c .before .first-minute .ensures .0, c .row-below .ensures .0, reduced-is found))),
