@@ -40,14 +40,17 @@ fn print_signed(z: i32) {
     print_size(size(z));
 }
 
-// An answer: number and two values, each after a blank.
-fn print_answer(number: u32, first: i32, second: i32) {
+// An answer: number and two values, each after a blank, and the word half if some rounding met one.
+fn print_answer(number: u32, first: i32, second: i32, half: bool) {
     print(b" ");
     print_size(number as u64);
     print(b" ");
     print_signed(first);
     print(b" ");
     print_signed(second);
+    if half {
+        print(b" half");
+    }
 }
 
 // The check's answer: number, kind, row.
@@ -112,13 +115,13 @@ fn answer(sheet: &[u8], l: Line) {
     let form = l.form;
     if form == FORWARD {
         let r = convert::geographic_to_plane(sheet, l.first, l.second);
-        print_answer(r.number, r.x, r.y);
+        print_answer(r.number, r.x, r.y, r.half);
     } else if form == INVERSE {
         let r = convert::plane_to_geographic(sheet, l.first, l.second);
-        print_answer(r.number, r.latitude, r.longitude);
+        print_answer(r.number, r.latitude, r.longitude, r.half);
     } else if form == SCALE {
         let r = convert::convergence_and_scale(sheet, l.first, l.second);
-        print_answer(r.number, r.convergence, r.scale);
+        print_answer(r.number, r.convergence, r.scale, r.half);
     } else {
         print(b" 18");
     }

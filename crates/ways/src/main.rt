@@ -175,13 +175,16 @@ fn put_asked(letter: u8, bytes: u64, p: Point) {
     put(b':');
 }
 
-// Number and values, or the refusal number.
+// Number and values, and the word half if some rounding met one; or the refusal number.
 fn put_answer(r: Answer) {
     match r {
-        Answer::Counts(first, second) => {
+        Answer::Counts(first, second, half) => {
             put_size(0);
             put_float(first);
             put_float(second);
+            if half {
+                io::write_all(STDOUT_FILENO, b" half");
+            }
         }
         Answer::Refused(number) => put_size(number as u64),
     }

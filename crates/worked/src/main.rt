@@ -71,19 +71,19 @@ fn print_line(letter: &[u8], first: i32, second: i32, number: u32, third: i32, f
 fn show_latitude(s: &[u8], p: Places, t: u64)
     requires { ⌜ (checkOf (now s) .number ≡ 0) × (p ≡ placesOf (now s)) × (t ≤ (rowsOf (now s) latitude - 1) * stepOf latitude) ⌝ }
 {
-    print_figure(b" y0 ", tables::y0_at(s, p, t));
-    print_size(b" H ", tables::h_at(s, p, t));
-    print_size(b" V ", tables::v_at(s, p, t));
-    print_figure(b" a ", tables::a_at(s, p, t));
+    print_figure(b" y0 ", tables::y0_at(s, p, t).value);
+    print_size(b" H ", tables::h_at(s, p, t).value);
+    print_size(b" V ", tables::v_at(s, p, t).value);
+    print_figure(b" a ", tables::a_at(s, p, t).value);
 }
 
 // What it has at a size of L.
 fn show_longitude(s: &[u8], p: Places, size: u64)
     requires { ⌜ (checkOf (now s) .number ≡ 0) × (p ≡ placesOf (now s)) × (size ≤ (rowsOf (now s) longitude - 1) * stepOf longitude) ⌝ }
 {
-    print_size(b" q ", steps::q_of(size));
-    print_figure(b" b ", tables::b_at(s, p, size));
-    print_figure(b" c ", tables::c_at(s, p, size));
+    print_size(b" q ", steps::q_of(size).value);
+    print_figure(b" b ", tables::b_at(s, p, size).value);
+    print_figure(b" c ", tables::c_at(s, p, size).value);
 }
 
 // The figures of the way forward, of a latitude and a longitude within the tables.
@@ -118,9 +118,9 @@ fn show_reduction(s: &[u8], p: Places, x: u64, y: i32)
     requires { ⌜ (checkOf (now s) .number ≡ 0) × (p ≡ placesOf (now s)) × (x ≤ (rowsOf (now s) easting - 1) * stepOf easting) × (northingKnown (now s) y ≡ true) ⌝ }
 {
     let north = y as i64;
-    let big_p = tables::p_at(s, p, north as u64);
-    let d = tables::d_at(s, p, x);
-    let reduction = steps::reduction(big_p, x, d);
+    let big_p = tables::p_at(s, p, north as u64).value;
+    let d = tables::d_at(s, p, x).value;
+    let reduction = steps::reduction(big_p, x, d).value;
     print_size(b" P ", big_p);
     print_figure(b" d ", d);
     print_figure(b" reduction ", reduction);
@@ -207,26 +207,26 @@ fn work_sheet(i: usize, points: &[[i32; 4]]) {
 fn step_forward(s: u64, h: u64, v: u64, a: i64, b: i64, c: i64)
     requires { ⌜ (s ≤ mostS) × (h ≤ mostH) × (v ≤ mostV) × (natAbs a ≤ mostA) × (natAbs b ≤ mostB) × (natAbs c ≤ mostC) × T (nonNeg (pos (h * s) +ℤ a *ℤ b *ℤ pos 1_000)) ⌝ }
 {
-    let q = steps::q_of(s);
+    let q = steps::q_of(s).value;
     print_size(b": q ", q);
-    print_size(b" x ", steps::size_of_x(h, s, a, b));
-    print_figure(b" rise ", steps::rise(v, q, c));
+    print_size(b" x ", steps::size_of_x(h, s, a, b).value);
+    print_figure(b" rise ", steps::rise(v, q, c).value);
 }
 
 // The steps back: the reduction, approximate L, and the size of L.
 fn step_back(x: u64, h: u64, a: i64, b: i64, p: u64, d: i64)
     requires { ⌜ (x ≤ mostX) × (0 < h) × (h ≤ mostH) × (natAbs a ≤ mostA) × (natAbs b ≤ mostB) × (p ≤ mostP) × (natAbs d ≤ mostD) × T (nonNeg (pos (x * 10_000) -ℤ a *ℤ b)) ⌝ }
 {
-    print_figure(b" reduction ", steps::reduction(p, x, d));
-    print_size(b" approximate ", steps::approximate_l(x, h));
-    print_size(b" L ", steps::size_of_l(x, a, b, h));
+    print_figure(b" reduction ", steps::reduction(p, x, d).value);
+    print_size(b" approximate ", steps::approximate_l(x, h).value);
+    print_size(b" L ", steps::size_of_l(x, a, b, h).value);
 }
 
 // Δα.
 fn step_across(m: u64, x: i64)
     requires { ⌜ (m ≤ mostM) × (natAbs x ≤ mostWord) ⌝ }
 {
-    print_figure(b" convergence ", steps::convergence(m, x));
+    print_figure(b" convergence ", steps::convergence(m, x).value);
     print(b"\n");
 }
 

@@ -1,11 +1,11 @@
 -- `worked::show_reduction` meets its contract. Assumes nothing.
-use mathlib.Core.Path.{_∙_}
+use mathlib.Core.Path.{_≡_, _∙_}
 use native.Mathlib.Nat.{le-trans}
 use lib.Dec.{lit≤}
 use lib.IntN.{natAbs}
 use denote.Ref.{now}
 use mir.Syntax.{w64}
-use mir.Val.{ofZ}
+use mir.Val.{toZ, ofZ}
 use Rattle.steps.specs.Steps.{reduction}
 use Rattle.figures.proofs.Sizes.{size-nonNeg}
 use Rattle.figures.proofs.Holds.{Holds, difference-fits, unsigned-fits}
@@ -13,21 +13,24 @@ use Rattle.tables.specs.Figures.{pAt, dAt}
 use Rattle.extent.proofs.Reach.{northing-reach, easting-span}
 use Rattle.extent.proofs.Points.{wide, wide-fits}
 use Rattle.inverse.proofs.Longitudes.{reduction-worked, reduction-small}
-use Rattle.figures.proofs.Bits.{bits-is, bits-most, bits-hold}
 use borrow.Author.Needs.{needs}
 use Rattle.worked.proofs.show_reduction.Statement.{statement}
 use Rattle.worked.proofs.show_reduction.Tie as tie
 
--- the reduction, as it was worked
+-- d, and the reduction, as they were worked
+d-is : (c : tie.After-d-at) → toZ w64 (ofZ w64 (c .d-at .result .value)) ≡ c .d-at .result .value
+d-is c = search needs
+
 reduction-is : (c : tie.After-reduction)
-    → let args = c .before .before .before .before .args in
-    Holds w64 (ofZ w64 (c .reduction .result)) (reduction (pAt (now (args .s)) (natAbs (args .y))) (args .x) (dAt (now (args .s)) (args .x))) 8_100_100
+    → let args = c .before .before .before .before .before .args in
+    Holds w64 (ofZ w64 (c .reduction .result .value)) (reduction (pAt (now (args .s)) (natAbs (args .y))) (args .x) (dAt (now (args .s)) (args .x))) 8_100_100
 reduction-is c =
-    let start = c .before .before .before .before in
+    let read = c .before .before in
+    let start = read .before .before .before in
     let p = start .pre in
-    let d = c .before .d-at in
-    let worked = reduction-worked _ _ _ (wide (start .fits .y) .is) (c .before .before .p-at .ensures .0) (bits-is (d .ok)) (d .ensures .0) in
-    bits-hold (c .reduction .ok) (c .reduction .ensures ∙ worked) (reduction-small _ (p .0) _ _ (p .2) (northing-reach _ _ (p .3) .high))
+    let bits : toZ w64 (ofZ w64 (c .reduction .result .value)) ≡ c .reduction .result .value = search needs in
+    let worked = reduction-worked _ _ _ (wide (start .fits .y) .is) (read .before .p-at .ensures .0) (d-is read) (read .d-at .ensures .0) in
+    record { is = bits ∙ c .reduction .ensures .0 ∙ worked; size = reduction-small _ (p .0) _ _ (p .2) (northing-reach _ _ (p .3) .high) }
 
 returns : tie.Need-returns
 returns c = search needs
@@ -48,8 +51,9 @@ d-at-requires c κs = search needs
 
 reduction-requires : tie.Need-reduction-requires
 reduction-requires c κs =
-    let p = c .before .before .before .pre in
-    (c .before .p-at .ensures .1, le-trans (p .2) (le-trans (easting-span _ (p .0)) (lit≤ tt)), bits-most (c .d-at .result) (c .d-at .ok) (c .d-at .ensures .1))
+    let read = c .before in
+    let p = read .before .before .before .pre in
+    (read .before .p-at .ensures .1, le-trans (p .2) (le-trans (easting-span _ (p .0)) (lit≤ tt)), rw (d-is read) (read .d-at .ensures .1))
 
 slice-aggregate-print-size : tie.Need-slice-aggregate-print-size
 slice-aggregate-print-size c = search needs
@@ -74,8 +78,8 @@ slice-aggregate-print-figure-3 c = search needs
 
 sub-print-figure : tie.Need-sub-print-figure
 sub-print-figure c =
-    let worked = c .before .before .before .before .before .before .before in
-    difference-fits (wide (worked .before .before .before .before .fits .y)) (reduction-is worked) tt
+    let worked = c .before .before .before .before .before .before .before .before in
+    difference-fits (wide (worked .before .before .before .before .before .fits .y)) (reduction-is worked) tt
 
 print-figure-requires-3 : tie.Need-print-figure-requires-3
 print-figure-requires-3 c κs = search needs

@@ -37,7 +37,7 @@ rise-requires : tie.Need-rise-requires
 rise-requires c κs =
     let start = c .before .before .before .before .before .before .before in
     let c-is : toZ w64 (ofZ w64 (start .args .c)) ≡ start .args .c = search needs in
-    let q : c .before .before .before .before .before .before .q-of .result ≤ mostQ = rw (c .before .before .before .before .before .before .q-of .ensures) (q-most _ (start .pre .0)) in
+    let q : c .before .before .before .before .before .before .q-of .result .value ≤ mostQ = rw (c .before .before .before .before .before .before .q-of .ensures .0) (q-most _ (start .pre .0)) in
     (start .pre .2, q, rw c-is (start .pre .5))
 
 print-figure-requires : tie.Need-print-figure-requires
