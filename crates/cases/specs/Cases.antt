@@ -1,4 +1,5 @@
 -- The worked figures of the Survey's sheets that are proved: each case has the figures that the definitions give, and those that are printed.
+use mathlib.Core.Bool.{Bool, cond}
 use mathlib.Core.List.{List, [], _∷_}
 use Prim.Native.Nat.{ℕ, _-_}
 use lib.IntN.{ℤ, pos, negℤ, _-ℤ_}
@@ -10,7 +11,8 @@ use Rattle.bodies.specs.Check.{checkOf}
 use Rattle.tables.specs.Figures.{mAt}
 use Rattle.forward.specs.declared.Plane.{Plane}
 use Rattle.inverse.specs.declared.Geographic.{Geographic}
-use Rattle.convert.specs.Conversions.{geographicToPlane, planeToGeographic}
+use Rattle.grid.specs.declared.Grid.{Grid}
+use Rattle.convert.specs.Conversions.{geographicToPlane, planeToGeographic, convergenceAndScale}
 use Rattle.cases.specs.Bytes.{bytesOf}
 use Rattle.cases.specs.CaseSheet.{caseSheet}
 
@@ -19,12 +21,19 @@ pub record Case : Type 0 where
   pub worked : List ℤ
   pub printed : List ℤ
 
--- An answer's number and its two values.
+-- A mark as a figure: 1 where some rounding met a half, else 0.
+abbrev pub marked : Bool → ℤ
+marked half = cond half (pos 1) (pos 0)
+
+-- An answer's number, its two values and its mark.
 abbrev pub onPlane : Plane → List ℤ
-onPlane r = pos (r .number) ∷ r .x ∷ r .y ∷ []
+onPlane r = pos (r .number) ∷ r .x ∷ r .y ∷ marked (r .half) ∷ []
 
 abbrev pub onEarth : Geographic → List ℤ
-onEarth r = pos (r .number) ∷ r .latitude ∷ r .longitude ∷ []
+onEarth r = pos (r .number) ∷ r .latitude ∷ r .longitude ∷ marked (r .half) ∷ []
+
+abbrev pub onGrid : Grid → List ℤ
+onGrid r = pos (r .number) ∷ r .convergence ∷ r .scale ∷ marked (r .half) ∷ []
 
 -- The check's answer, "number, kind, row", before what else is told.
 abbrev pub told : Verdict → List ℤ → List ℤ
@@ -123,6 +132,13 @@ halfM = record {
   printed = pos 38_423 ∷ [];
 }
 
+-- The same through the whole definition: at x 512,500 ft and y 50,000 ft Δα is 48.0″ and k 0.9999902, and the answer is marked. k and Δα meet no half there, so that the mark is M's.
+unfoldable pub halfMarked : Case
+halfMarked = record {
+  worked = onGrid (convergenceAndScale caseSheet (pos 51_250_000) (pos 5_000_000));
+  printed = pos 0 ∷ pos 480 ∷ pos 9_999_902 ∷ pos 1 ∷ [];
+}
+
 -- −0.9875 to three places is −0.988 and not −0.987. The case sheet's a stands there at 21°30′30″, between −0.988 and −0.987.
 unfoldable pub halfA : Case
 halfA = record {
@@ -130,26 +146,26 @@ halfA = record {
   printed = negℤ (pos 988) ∷ negℤ (pos 988) ∷ [];
 }
 
--- Case sheet, x 500,000.00, y 127,133.05: latitude 21°31′00.000″, on the central meridian, 158°. The seconds past 21°30′ come to 60.000.
+-- Case sheet, x 500,000.00, y 127,133.05: latitude 21°31′00.000″, on the central meridian, 158°. The seconds past 21°30′ come to 60.000, and not by a half.
 unfoldable pub minute31 : Case
 minute31 = record {
   worked = onEarth (planeToGeographic caseSheet (pos 50_000_000) (pos 12_713_305));
-  printed = pos 0 ∷ pos 77_460_000 ∷ pos 568_800_000 ∷ [];
+  printed = pos 0 ∷ pos 77_460_000 ∷ pos 568_800_000 ∷ pos 0 ∷ [];
 }
 
--- The two first points of the listing, on the case sheet: `G 77430000 568250000` and `P 55193582 12413141`.
+-- The two first points of the listing, on the case sheet: `G 77430000 568250000` and `P 55193582 12413141`. The listing prints no marks; both points meet halves, in H, a and b.
 unfoldable pub listingG : Case
 listingG = record {
   worked = onPlane (geographicToPlane caseSheet (pos 77_430_000) (pos 568_250_000));
-  printed = pos 0 ∷ pos 55_193_582 ∷ pos 12_413_141 ∷ [];
+  printed = pos 0 ∷ pos 55_193_582 ∷ pos 12_413_141 ∷ pos 1 ∷ [];
 }
 
 unfoldable pub listingP : Case
 listingP = record {
   worked = onEarth (planeToGeographic caseSheet (pos 55_193_582) (pos 12_413_141));
-  printed = pos 0 ∷ pos 77_430_000 ∷ pos 568_250_000 ∷ [];
+  printed = pos 0 ∷ pos 77_430_000 ∷ pos 568_250_000 ∷ pos 1 ∷ [];
 }
 
 -- The list.
 unfoldable pub starred : List Case
-starred = harvey ∷ kahela ∷ kahelaBack ∷ irish ∷ irishBack ∷ naper ∷ row2048 ∷ h2048 ∷ halfM ∷ halfA ∷ minute31 ∷ listingG ∷ listingP ∷ []
+starred = harvey ∷ kahela ∷ kahelaBack ∷ irish ∷ irishBack ∷ naper ∷ row2048 ∷ h2048 ∷ halfM ∷ halfMarked ∷ halfA ∷ minute31 ∷ listingG ∷ listingP ∷ []
