@@ -12,13 +12,18 @@ static void check(const char *what, const uint8_t *s, size_t n) {
     printf("check, %s: %u %zu %zu\n", what, (unsigned)r.number, r.kind, r.row);
 }
 
+// What is printed of a mark.
+static const char *mark(bool half) { return half ? " half" : ""; }
+
 static void convert(const uint8_t *s, size_t n) {
     bannerscale_plane_answer p = bannerscale_geographic_to_plane(s, n, 77430000, 568250000);
-    printf("geographic_to_plane: %u %d %d\n", (unsigned)p.number, (int)p.x, (int)p.y);
+    printf("geographic_to_plane: %u %d %d%s\n", (unsigned)p.number, (int)p.x, (int)p.y, mark(p.half));
     bannerscale_geographic_answer g = bannerscale_plane_to_geographic(s, n, 55193582, 12413141);
-    printf("plane_to_geographic: %u %d %d\n", (unsigned)g.number, (int)g.latitude, (int)g.longitude);
-    bannerscale_grid_answer k = bannerscale_convergence_and_scale(s, n, 51250000, 12413141);
-    printf("convergence_and_scale: %u %d %d\n", (unsigned)k.number, (int)k.convergence, (int)k.scale);
+    printf("plane_to_geographic: %u %d %d%s\n", (unsigned)g.number, (int)g.latitude, (int)g.longitude, mark(g.half));
+    for (int32_t y = 5000000; y <= 12413141; y += 7413141) {
+        bannerscale_grid_answer k = bannerscale_convergence_and_scale(s, n, 51250000, y);
+        printf("convergence_and_scale: %u %d %d%s\n", (unsigned)k.number, (int)k.convergence, (int)k.scale, mark(k.half));
+    }
 }
 
 static size_t changed_bytes(void) {
@@ -57,14 +62,14 @@ static void batch(size_t point_words, size_t answer_words) {
     printf("\n");
 }
 
-static void say_door(const char *name, bannerscale_door_answer a) { printf("door %s: %u %.1f %.1f\n", name, (unsigned)a.number, a.first, a.second); }
+static void say_door(const char *name, bannerscale_door_answer a) { printf("door %s: %u %.1f %.1f%s\n", name, (unsigned)a.number, a.first, a.second, mark(a.half)); }
 
 static void door(const uint8_t *s, size_t n) {
-    bannerscale_door_point earth = {77430000.0, 568250000.0}, plane = {55193582.0, 12413141.0}, near_line = {51250000.0, 12413141.0}, half = {77430000.5, 568250000.0};
+    bannerscale_door_point earth = {77430000.0, 568250000.0}, plane = {55193582.0, 12413141.0}, near_line = {51250000.0, 12413141.0}, no_count = {77430000.5, 568250000.0};
     say_door("geographic_to_plane", bannerscale_door_geographic_to_plane(s, n, earth));
     say_door("plane_to_geographic", bannerscale_door_plane_to_geographic(s, n, plane));
     say_door("convergence_and_scale", bannerscale_door_convergence_and_scale(s, n, near_line));
-    say_door("geographic_to_plane, a half", bannerscale_door_geographic_to_plane(s, n, half));
+    say_door("geographic_to_plane, no count", bannerscale_door_geographic_to_plane(s, n, no_count));
 }
 
 // Null pointers with length 0: an empty sheet, an empty batch.

@@ -7,6 +7,9 @@
  * initialised and aligned as their type asks. Memory that a function writes must overlap no other that is lent to the same call, nor be used by another thread meanwhile. A null pointer
  * with length 0 is an empty slice; a null pointer with another length is not allowed.
  *
+ * Version. BANNERSCALE_VERSION is the number of what is declared here: build a program and its library from headers of the same number. 2: the answers of the conversions and of the
+ * door end in `half`. The header before it had no number, and counts as 1.
+ *
  * Units. Points are signed 32-bit counts: latitude and west longitude in thousandths of a second, x and y in hundredths of a foot. West longitude is positive. */
 #ifndef BANNERSCALE_H
 #define BANNERSCALE_H
@@ -14,6 +17,8 @@
 #include <stdbool.h>
 #include <stddef.h>
 #include <stdint.h>
+
+#define BANNERSCALE_VERSION 2
 
 #ifdef __cplusplus
 extern "C" {
@@ -70,13 +75,17 @@ typedef struct {
 bannerscale_check_answer bannerscale_check(const uint8_t *sheet, size_t sheet_bytes);
 
 /* ---- the conversions of one point
- * Each checks the sheet first and gives the check's number, 1 to 9, before its own. A refusal has its number and zeros. For many points on one sheet see the batch. */
+ * Each checks the sheet first and gives the check's number, 1 to 9, before its own. A refusal has its number, zeros and false. For many points on one sheet see the batch.
+ *
+ * half: some rounding on the way to the values met a half, its exact value being halfway between two whole numbers of its unit. The rules send a half away from zero, and one who
+ * sends it elsewhere may get other values. Every rounding counts: each figure that is read between rows, and each step. */
 
 /* x and y in 0.01 ft. */
 typedef struct {
     uint32_t number;
     int32_t x;
     int32_t y;
+    bool half;
 } bannerscale_plane_answer;
 
 /* Latitude and west longitude in 0.001 seconds to x and y. Its own refusals: 10, 11. */
@@ -87,6 +96,7 @@ typedef struct {
     uint32_t number;
     int32_t latitude;
     int32_t longitude;
+    bool half;
 } bannerscale_geographic_answer;
 
 /* x and y in 0.01 ft to latitude and west longitude. Its own refusals: 12, 13, 14, 11. */
@@ -97,6 +107,7 @@ typedef struct {
     uint32_t number;
     int32_t convergence;
     int32_t scale;
+    bool half;
 } bannerscale_grid_answer;
 
 /* x and y in 0.01 ft to convergence and scale. Its own refusals: 12, 13. */
@@ -131,11 +142,11 @@ typedef struct {
 } bannerscale_batch_answer;
 
 /* Geographic to plane for pairs of latitude and longitude: points has 2 words a point, answers gets 3, number, x, y, and may be longer, its tail stays. A
- * point that is refused has 10 or 11 and zeros there. Both lengths count words. 17 comes before the check's number. */
+ * point that is refused has 10 or 11 and zeros there. Both lengths count words. 17 comes before the check's number. A batch tells no halves. */
 bannerscale_batch_answer bannerscale_batch(const uint8_t *sheet, size_t sheet_bytes, const int32_t *points, size_t point_words, int32_t *answers, size_t answer_words);
 
 /* ---- the drawing tools' door: the conversions over counts held in doubles
- * 15, where a double is no count, comes before the sheet is looked at; then the check's number, then the conversion's. -0 is 0. A refusal has its number and zeros. */
+ * 15, where a double is no count, comes before the sheet is looked at; then the check's number, then the conversion's. -0 is 0. A refusal has its number, zeros and false. */
 
 typedef struct {
     double first;
@@ -146,6 +157,7 @@ typedef struct {
     uint32_t number;
     double first;
     double second;
+    bool half;
 } bannerscale_door_answer;
 
 /* Latitude and longitude to x and y. */
