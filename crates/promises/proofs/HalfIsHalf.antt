@@ -12,7 +12,7 @@ use Rattle.figures.specs.Nearest.{onHalfSize, onHalf}
 use Rattle.figures.specs.Between.{exactBetween, betweenHalf}
 use Rattle.figures.proofs.Ring.{minus-times}
 use Rattle.figures.proofs.Sizes.{size-minus, size-product}
-use Rattle.steps.specs.Steps.{exactX, exactRise, exactReduction, exactL, qHalf, sizeOfXHalf, riseHalf, reductionHalf, secondsHalf, approximateLHalf, sizeOfLHalf, convergenceHalf}
+use Rattle.steps.specs.Steps.{exactQ, exactX, exactRise, exactReduction, exactSeconds, exactApproximate, exactL, exactConvergence, qHalf, sizeOfXHalf, riseHalf, reductionHalf, secondsHalf, approximateLHalf, sizeOfLHalf, convergenceHalf}
 use Rattle.promises.specs.Meaning.{Halfway, Marks}
 
 -- ---- sizes: n = q·d + d/2, so that 2n = (2q + 1)·d
@@ -67,9 +67,9 @@ pub between-marks : (u w : ℤ) (t step : ℕ) → 0 < step → Marks (betweenHa
 unfolding betweenHalf
 between-marks u w t step some = half-is-half (exactBetween u w t step) step some
 
-pub q-marks : (s : ℕ) → Marks (qHalf s) (pos (s * s)) 10_000_000
+pub q-marks : (s : ℕ) → Marks (qHalf s) (pos (exactQ s)) 10_000_000
 unfolding qHalf
-q-marks s = size-is-half (s * s) 10_000_000 (lit< tt)
+q-marks s = size-is-half (exactQ s) 10_000_000 (lit< tt)
 
 pub x-marks : (h s : ℕ) (a b : ℤ) → Marks (sizeOfXHalf h s a b) (exactX h s a b) 10_000_000
 unfolding sizeOfXHalf
@@ -83,18 +83,18 @@ pub reduction-marks : (p x : ℕ) (d : ℤ) → Marks (reductionHalf p x d) (exa
 unfolding reductionHalf
 reduction-marks p x d = half-is-half (exactReduction p x d) 1_000_000_000_000_000 (lit< tt)
 
-pub seconds-marks : (span past gap : ℕ) → 0 < gap → Marks (secondsHalf span past gap) (pos (span * past)) gap
+pub seconds-marks : (span past gap : ℕ) → 0 < gap → Marks (secondsHalf span past gap) (pos (exactSeconds span past)) gap
 unfolding secondsHalf
-seconds-marks span past gap some = size-is-half (span * past) gap some
+seconds-marks span past gap some = size-is-half (exactSeconds span past) gap some
 
-pub approximate-marks : (x h : ℕ) → 0 < h → Marks (approximateLHalf x h) (pos (x * 10_000)) h
+pub approximate-marks : (x h : ℕ) → 0 < h → Marks (approximateLHalf x h) (pos (exactApproximate x)) h
 unfolding approximateLHalf
-approximate-marks x h some = size-is-half (x * 10_000) h some
+approximate-marks x h some = size-is-half (exactApproximate x) h some
 
 pub l-marks : (x : ℕ) (a b : ℤ) (h : ℕ) → 0 < h → Marks (sizeOfLHalf x a b h) (exactL x a b) h
 unfolding sizeOfLHalf
 l-marks x a b h some = half-is-half (exactL x a b) h some
 
-pub convergence-marks : (m : ℕ) (x : ℤ) → Marks (convergenceHalf m x) (pos m *ℤ x) 100_000_000
+pub convergence-marks : (m : ℕ) (x : ℤ) → Marks (convergenceHalf m x) (exactConvergence m x) 100_000_000
 unfolding convergenceHalf
-convergence-marks m x = half-is-half (pos m *ℤ x) 100_000_000 (lit< tt)
+convergence-marks m x = half-is-half (exactConvergence m x) 100_000_000 (lit< tt)

@@ -1,6 +1,6 @@
 -- The Survey's printed steps, one definition a step, over whole numbers in the sheet's and the point's units.
--- A figure that cannot be negative is a ℕ, and so is a size that is given; a, b, c, d, a signed x′ and what they enter, the sizes of x′ and of L among it, are ℤ. Each step rounds
--- once, by nearest.
+-- A figure that cannot be negative is a ℕ, and so is a size that is given; a, b, c, d, a signed x′ and what they enter, the sizes of x′ and of L among it, are ℤ.
+-- A step is a fraction. `exact..` is what stands above its line. The step rounds once, by nearest, and its `..Half` says whether its "exact value was a half".
 use mathlib.Core.Bool.{Bool}
 use Prim.Native.Nat.{ℕ, _*_}
 use lib.IntN.{ℤ, pos, _+ℤ_, _-ℤ_, _*ℤ_}
@@ -9,11 +9,14 @@ use Rattle.figures.specs.Nearest.{nearestSize, nearest, onHalfSize, onHalf}
 -- ---- geographic to plane
 
 -- "q = (s/100)² to 0.001." s in 0.001″, q in 0.001: the square of s/100 has the unit 10⁻¹⁰.
+abbrev pub exactQ : ℕ → ℕ
+exactQ s = s * s
+
 unfoldable pub qOf : ℕ → ℕ
-qOf s = nearestSize (s * s) 10_000_000
+qOf s = nearestSize (exactQ s) 10_000_000
 
 unfoldable pub qHalf : ℕ → Bool
-qHalf s = onHalfSize (s * s) 10_000_000
+qHalf s = onHalfSize (exactQ s) 10_000_000
 
 -- "The size of x′ is the nearest hundredth of H·s + a·b": H in 0.000001, s, a, b in 0.001, the size in 0.01 ft. H·s has the unit 10⁻⁹, a·b 10⁻⁶.
 abbrev pub exactX : ℕ → ℕ → ℤ → ℤ → ℤ
@@ -49,18 +52,24 @@ reductionHalf p x d = onHalf (exactReduction p x d) 1_000_000_000_000_000
 
 -- "seconds = 60(reduced − y0)/(y0 next − y0), to 0.001": span is the 60 in 0.001″, past is reduced − y0 and gap is y0 next − y0, both in 0.01 ft.
 -- It comes to the whole span where past is just short of the gap: what that means for the minute is the inverse's to say.
+abbrev pub exactSeconds : ℕ → ℕ → ℕ
+exactSeconds span past = span * past
+
 unfoldable pub seconds : ℕ → ℕ → ℕ → ℕ
-seconds span past gap = nearestSize (span * past) gap
+seconds span past gap = nearestSize (exactSeconds span past) gap
 
 unfoldable pub secondsHalf : ℕ → ℕ → ℕ → Bool
-secondsHalf span past gap = onHalfSize (span * past) gap
+secondsHalf span past gap = onHalfSize (exactSeconds span past) gap
 
 -- "Approximate L = |x′|/H to a whole second": the size x of x′ in 0.01 ft, H in 0.000001.
+abbrev pub exactApproximate : ℕ → ℕ
+exactApproximate x = x * 10_000
+
 unfoldable pub approximateL : ℕ → ℕ → ℕ
-approximateL x h = nearestSize (x * 10_000) h
+approximateL x h = nearestSize (exactApproximate x) h
 
 unfoldable pub approximateLHalf : ℕ → ℕ → Bool
-approximateLHalf x h = onHalfSize (x * 10_000) h
+approximateLHalf x h = onHalfSize (exactApproximate x) h
 
 -- "The size of L is (|x′| − a·b)/H to 0.001": the size x of x′ in 0.01 ft, a and b in 0.001, H in 0.000001, the size in 0.001″.
 abbrev pub exactL : ℕ → ℤ → ℤ → ℤ
@@ -75,15 +84,18 @@ sizeOfLHalf x a b h = onHalf (exactL x a b) h
 -- ---- convergence
 
 -- "Δα = M·x′ to 0.1″": M in 10⁻⁷, x′ in 0.01 ft, Δα in 0.1″. M·x′ has the unit 10⁻⁹.
+abbrev pub exactConvergence : ℕ → ℤ → ℤ
+exactConvergence m x = pos m *ℤ x
+
 unfoldable pub convergence : ℕ → ℤ → ℤ
-convergence m x = nearest (pos m *ℤ x) 100_000_000
+convergence m x = nearest (exactConvergence m x) 100_000_000
 
 unfoldable pub convergenceHalf : ℕ → ℤ → Bool
-convergenceHalf m x = onHalf (pos m *ℤ x) 100_000_000
+convergenceHalf m x = onHalf (exactConvergence m x) 100_000_000
 
 -- ---- a sheet's per-second columns
 
 -- "Δy, ΔH and ΔV are the differences over 60 seconds: nearest whole to 1000(y0 next − y0)/60, 100(H − H next)/60, 100(V next − V)/60".
--- The scale is 1000 for Δy and 100 for the others; the difference is the next row's figure less this one's, and for ΔH this one's less the next.
+-- The scale is 1000 for Δy and 100 for the others; the difference is the next row's figure less this one's, and for ΔH this one's less the next. "(no half can occur)"
 unfoldable pub perSecond : ℕ → ℤ → ℤ
 perSecond scale difference = nearest (pos scale *ℤ difference) 60
