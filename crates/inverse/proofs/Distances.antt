@@ -2,8 +2,8 @@
 use mathlib.Core.Path.{_≡_, refl, sym, ap, _∙_, subst}
 use mathlib.Core.Bool.{Bool, true, false}
 use mathlib.Core.List.{List}
-use Prim.Native.Nat.{ℕ, _+_, _*_, _-_, _<_, _≤_}
-use native.Mathlib.Nat.{le-trans}
+use Prim.Native.Nat.{ℕ, _+_, _*_, _-_, _<_, _≤_, min}
+use native.Mathlib.Nat.{le-trans, le-of-lt}
 use native.Mathlib.Decide.{decLt}
 use native.Mathlib.Omega.{arith}
 use borrow.Author.Tests.{leb-true, ltb-true, le-leb}
@@ -15,19 +15,22 @@ use mir.Val.{Fits}
 use Rattle.figures.specs.Ranges.{mostGap}
 use Rattle.steps.specs.Steps.{seconds, secondsHalf}
 use Rattle.figures.proofs.Sizes.{Size, pos-minus, subℕ-le}
-use Rattle.figures.proofs.Rounding.{nearestSize-most}
+use Rattle.figures.proofs.Rounding.{nearestSize-multiple, nearestSize-most}
+use Rattle.figures.proofs.Halves.{multiple-no-half}
 use Rattle.words.specs.Ladder.{whereBelow}
 use Rattle.words.proofs.Refusals.{where-below, where-beyond}
 use Rattle.entries.specs.Layout.{latitude, stepOf}
 use Rattle.entries.specs.Entries.{rowsOf}
 use Rattle.bodies.specs.Check.{checkOf}
+use Rattle.row_search.specs.Rows.{RisesBy}
 use Rattle.row_search.proofs.LastRow.{last-below, last-not-above, later-above}
 use Rattle.tables.specs.Figures.{y0Of}
-use Rattle.tables.proofs.Ranges.{latitude-some, y0-size}
+use Rattle.tables.proofs.Past.{past-reach}
+use Rattle.tables.proofs.Ranges.{latitude-some, latitude-two, y0-size, y0-rises}
 use Rattle.extent.specs.Extent.{reducedKnown}
 use Rattle.extent.proofs.Counts.{count-small}
-use Rattle.extent.proofs.Reach.{latitude-span, reduced-reach}
-use Rattle.inverse.specs.Inverse.{rowOf, secondsPast, secondsPastHalf, distanceOf}
+use Rattle.extent.proofs.Reach.{reduced-reach}
+use Rattle.inverse.specs.Inverse.{rowOf, secondsPast, secondsPastHalf, distanceOf, distanceHalf}
 
 -- ---- the order of sizes, and their difference
 above-size : (a b : ℤ) → a ≡ pos (natAbs a) → leZ a b ≡ true → (b ≡ pos (natAbs b)) × (natAbs a ≤ natAbs b)
@@ -44,10 +47,32 @@ difference-of : (a b : ℤ) → a ≡ pos (natAbs a) → b ≡ pos (natAbs b) �
 difference-of a b e f h =
     ap natAbs (ap (λ (z : ℤ). z -ℤ a) f ∙ ap (λ (z : ℤ). pos (natAbs b) -ℤ z) e ∙ pos-minus (natAbs b) (natAbs a) ∙ subℕ-le h)
 
+-- ---- the whole gap takes the whole span
+whole-seconds : (span gap : ℕ) → 0 < gap → seconds span gap gap ≡ span
+unfolding seconds
+whole-seconds span gap h = nearestSize-multiple span gap h
+
+whole-no-half : (span gap : ℕ) → 0 < gap → secondsHalf span gap gap ≡ false
+unfolding secondsHalf
+whole-no-half span gap h = multiple-no-half span gap h
+
 -- ---- a reduced northing z within the y0
 module _ (s : List ℕ) (ok : checkOf s .number ≡ 0) (z : ℤ) (known : reducedKnown s z ≡ true) where
   abbrev n : ℕ
   n = rowsOf s latitude
+
+  -- the seconds past a row, and their mark
+  abbrev past : ℕ → ℕ
+  past row = natAbs (z -ℤ y0Of s row)
+
+  abbrev gap : ℕ → ℕ
+  gap row = natAbs (y0Of s (row + 1) -ℤ y0Of s row)
+
+  abbrev secondsAt : ℕ → ℕ
+  secondsAt row = seconds (stepOf latitude) (past row) (gap row)
+
+  abbrev halfAt : ℕ → Bool
+  halfAt row = secondsHalf (stepOf latitude) (past row) (gap row)
 
   pub row-there : rowOf s z < n
   unfolding rowOf
@@ -64,118 +89,144 @@ module _ (s : List ℕ) (ok : checkOf s .number ≡ 0) (z : ℤ) (known : reduce
   z-size : (z ≡ pos (natAbs z)) × (natAbs (y0Of s (rowOf s z)) ≤ natAbs z)
   z-size = above-size (y0Of s (rowOf s z)) z (row-y0 .is) row-not-above
 
+  below-last : natAbs z ≤ natAbs (y0Of s (n - 1))
+  below-last = above-size z (y0Of s (n - 1)) (z-size .0) (reduced-reach s z known .1) .1
+
   pub z-most : natAbs z ≤ mostGap
-  z-most =
-      let last = y0-size s ok (n - 1) (omega (arith, latitude-some s ok)) in
-      le-trans (above-size z (y0Of s (n - 1)) (z-size .0) (reduced-reach s z known .1) .1) (le-trans (last .high) (lit≤ tt))
+  z-most = omega (arith, below-last, y0-size s ok (n - 1) (omega (arith, latitude-some s ok)) .high)
 
-  module _ (next : rowOf s z + 1 < n) where
-    next-y0 : Size 0 (y0Of s (rowOf s z + 1)) 999_999_999
-    next-y0 = y0-size s ok (rowOf s z + 1) next
+  -- the next row's y0 is above it
+  next-above : rowOf s z + 1 < n → natAbs z < natAbs (y0Of s (rowOf s z + 1))
+  unfolding rowOf
+  next-above next = below-size z (y0Of s (rowOf s z + 1)) (z-size .0) (y0-size s ok (rowOf s z + 1) next .is) (later-above (y0Of s) z n (rowOf s z + 1) next (omega arith))
 
-    -- and the next row's is
-    next-above : natAbs z < natAbs (y0Of s (rowOf s z + 1))
-    unfolding rowOf
-    next-above = below-size z (y0Of s (rowOf s z + 1)) (z-size .0) (next-y0 .is) (later-above (y0Of s) z n (rowOf s z + 1) next (omega arith))
+  -- ---- row is its row, or the one before where its row is the last: there is a next
+  module _ (row : ℕ) (e : row ≡ min (rowOf s z) (n - 2)) where
+    pub next-there : row + 1 < n
+    next-there = omega (arith, latitude-two s ok)
 
-    past-is : natAbs (z -ℤ y0Of s (rowOf s z)) ≡ natAbs z - natAbs (y0Of s (rowOf s z))
-    past-is = difference-of (y0Of s (rowOf s z)) z (row-y0 .is) (z-size .0) (z-size .1)
+    its-row : rowOf s z + 1 < n → row ≡ rowOf s z
+    its-row next = omega arith
 
-    gap-is : natAbs (y0Of s (rowOf s z + 1) -ℤ y0Of s (rowOf s z)) ≡ natAbs (y0Of s (rowOf s z + 1)) - natAbs (y0Of s (rowOf s z))
-    gap-is = difference-of (y0Of s (rowOf s z)) (y0Of s (rowOf s z + 1)) (row-y0 .is) (next-y0 .is) (omega (arith, z-size .1, next-above))
+    row-after : n ≤ rowOf s z + 1 → row + 1 ≡ rowOf s z
+    row-after last = omega (arith, row-there, latitude-two s ok)
 
-    pub past-gap : natAbs (z -ℤ y0Of s (rowOf s z)) < natAbs (y0Of s (rowOf s z + 1) -ℤ y0Of s (rowOf s z))
-    past-gap = omega (arith, past-is, gap-is, z-size .1, next-above)
+    -- its y0 and the next row's, from one of which to the other the reduced northing lies: at the last row, it is the next one's
+    this-y0 : Size 0 (y0Of s row) 999_999_999
+    this-y0 = y0-size s ok row (omega (arith, next-there))
 
-    pub gap-most : natAbs (y0Of s (rowOf s z + 1) -ℤ y0Of s (rowOf s z)) ≤ mostGap
-    gap-most = omega (arith, gap-is, next-y0 .high)
+    after-y0 : Size 0 (y0Of s (row + 1)) 999_999_999
+    after-y0 = y0-size s ok (row + 1) next-there
 
-    -- the seconds are at most the whole step
-    seconds-most : seconds (stepOf latitude) (natAbs (z -ℤ y0Of s (rowOf s z))) (natAbs (y0Of s (rowOf s z + 1) -ℤ y0Of s (rowOf s z))) ≤ stepOf latitude
+    rises : natAbs (y0Of s row) + 600_000 ≤ natAbs (y0Of s (row + 1))
+    unfolding RisesBy
+    rises = leb-true _ _ (rw (this-y0 .is, after-y0 .is) at (y0-rises s ok row next-there .0))
+
+    at-last : n ≤ rowOf s z + 1 → natAbs z ≡ natAbs (y0Of s (row + 1))
+    at-last last =
+        let end : n - 1 ≡ row + 1 = omega (arith, row-after last, row-there) in
+        omega (arith, rw end at below-last, rw (← row-after last) at (z-size .1))
+
+    not-above : natAbs (y0Of s row) ≤ natAbs z
+    not-above = pick (decLt (rowOf s z + 1) n)
+      where
+        pick : Dec (rowOf s z + 1 < n) → natAbs (y0Of s row) ≤ natAbs z
+        pick (yes h) = rw (its-row h) (z-size .1)
+        pick (no h) = omega (arith, rises, at-last (omega arith))
+
+    not-below : natAbs z ≤ natAbs (y0Of s (row + 1))
+    not-below = pick (decLt (rowOf s z + 1) n)
+      where
+        pick : Dec (rowOf s z + 1 < n) → natAbs z ≤ natAbs (y0Of s (row + 1))
+        pick (yes h) = rw (its-row h) (le-of-lt (next-above h))
+        pick (no h) = omega (arith, at-last (omega arith))
+
+    -- what of it lies past the row is at most the gap to the next
+    past-is : past row ≡ natAbs z - natAbs (y0Of s row)
+    past-is = difference-of (y0Of s row) z (this-y0 .is) (z-size .0) not-above
+
+    gap-is : gap row ≡ natAbs (y0Of s (row + 1)) - natAbs (y0Of s row)
+    gap-is = difference-of (y0Of s row) (y0Of s (row + 1)) (this-y0 .is) (after-y0 .is) (omega (arith, rises))
+
+    past-most : past row ≤ gap row
+    past-most = omega (arith, past-is, gap-is, not-below)
+
+    gap-some : 0 < gap row
+    gap-some = omega (arith, gap-is, rises)
+
+    gap-most : gap row ≤ mostGap
+    gap-most = omega (arith, gap-is, after-y0 .high)
+
+    -- and the seconds at most the step, which they are at the last row
+    seconds-most : secondsAt row ≤ stepOf latitude
     unfolding seconds
-    seconds-most =
-        nearestSize-most _ _ (stepOf latitude) (omega (arith, past-gap)) (omega (arith, past-gap))
+    seconds-most = nearestSize-most _ _ (stepOf latitude) gap-some (omega (arith, past-most))
 
-  -- the latitude lies from row 0 to the last
-  pub distance-most : distanceOf s z ≤ (n - 1) * stepOf latitude
-  unfolding distanceOf secondsPast
-  distance-most = pick (decLt (rowOf s z + 1) n)
-    where
-      pick : Dec (rowOf s z + 1 < n)
-          → rowOf s z * stepOf latitude
-          + whereBelow (rowOf s z + 1) n (seconds (stepOf latitude) (natAbs (z -ℤ y0Of s (rowOf s z))) (natAbs (y0Of s (rowOf s z + 1) -ℤ y0Of s (rowOf s z)))) 0
-          ≤ (n - 1) * stepOf latitude
-      pick (yes h) = rw (where-below (rowOf s z + 1) n (seconds (stepOf latitude) (natAbs (z -ℤ y0Of s (rowOf s z))) (natAbs (y0Of s (rowOf s z + 1) -ℤ y0Of s (rowOf s z)))) 0 h) (omega (arith, seconds-most h))
-      pick (no h) = rw (where-beyond (rowOf s z + 1) n (seconds (stepOf latitude) (natAbs (z -ℤ y0Of s (rowOf s z))) (natAbs (y0Of s (rowOf s z + 1) -ℤ y0Of s (rowOf s z)))) 0 (omega arith)) (omega (arith, row-there))
+    module _ (last : n ≤ rowOf s z + 1) where
+      whole-gap : past row ≡ gap row
+      whole-gap = omega (arith, past-is, gap-is, at-last last)
 
-  -- ---- as the code has them: row is its row, and a number with ′ has the bits of the one without
-  module _ (row : ℕ) (e : row ≡ rowOf s z) where
+      whole-step : secondsAt row ≡ stepOf latitude
+      whole-step = rw whole-gap (whole-seconds (stepOf latitude) (gap row) gap-some)
+
+      no-half : halfAt row ≡ false
+      no-half = rw whole-gap (whole-no-half (stepOf latitude) (gap row) gap-some)
+
+    pub distance-is : row * stepOf latitude + secondsAt row ≡ distanceOf s z
+    unfolding distanceOf secondsPast
+    distance-is = pick (decLt (rowOf s z + 1) n)
+      where
+        pick : Dec (rowOf s z + 1 < n) → row * stepOf latitude + secondsAt row ≡ rowOf s z * stepOf latitude + whereBelow (rowOf s z + 1) n (secondsAt (rowOf s z)) 0
+        pick (yes h) = rw (its-row h, where-below (rowOf s z + 1) n (secondsAt (rowOf s z)) 0 h)
+        pick (no h) = omega (arith, whole-step (omega arith), row-after (omega arith), where-beyond (rowOf s z + 1) n (secondsAt (rowOf s z)) 0 (omega arith))
+
+    half-is : halfAt row ≡ distanceHalf s z
+    unfolding distanceHalf secondsPastHalf
+    half-is = pick (decLt (rowOf s z + 1) n)
+      where
+        pick : Dec (rowOf s z + 1 < n) → halfAt row ≡ whereBelow (rowOf s z + 1) n (halfAt (rowOf s z)) false
+        pick (yes h) = rw (its-row h, where-below (rowOf s z + 1) n (halfAt (rowOf s z)) false h)
+        pick (no h) = no-half (omega arith) ∙ sym (where-beyond (rowOf s z + 1) n (halfAt (rowOf s z)) false (omega arith))
+
+    -- ---- as the code has them: a number with ′ has the bits of the one without
     pub row-below : row < n
-    row-below = rw e row-there
+    row-below = omega (arith, next-there)
 
     pub next-fits : Fits w64 (row + 1)
-    next-fits = record { fits = omega (arith, row-below, count-small s latitude ok (lit≤ tt) (lit≤ tt)) }
+    next-fits = record { fits = omega (arith, next-there, count-small s latitude ok (lit≤ tt) (lit≤ tt)) }
 
     module _ (y y′ z′ : ℤ) (g : y′ ≡ y) (k : y ≡ y0Of s row) (same : z′ ≡ z) where
       pub above-row : leZ y′ z′ ≡ true
-      above-row = rw (g ∙ k, same, e) row-not-above
+      above-row = rw (g ∙ k, same, this-y0 .is, z-size .0) (le-leb (natAbs (y0Of s row)) (natAbs z) not-above)
 
-      module _ (w w′ : ℤ) (l : w′ ≡ w) (m : w ≡ y0Of s (row + 1)) (next : row + 1 < n) where
-        there : rowOf s z + 1 < n
-        there = rw (← e) next
-
+      module _ (w w′ : ℤ) (l : w′ ≡ w) (m : w ≡ y0Of s (row + 1)) where
         pub above-next : leZ y′ w′ ≡ true
-        above-next =
-            rw (g ∙ k, l ∙ m, e, row-y0 .is, next-y0 there .is)
-            (le-leb (natAbs (y0Of s (rowOf s z))) (natAbs (y0Of s (rowOf s z + 1))) (omega (arith, z-size .1, next-above there)))
+        above-next = rw (g ∙ k, l ∙ m, this-y0 .is, after-y0 .is) (le-leb (natAbs (y0Of s row)) (natAbs (y0Of s (row + 1))) (omega (arith, rises)))
 
-        module _ (past gap : ℕ) (p : past ≡ natAbs (z′ -ℤ y′)) (q : gap ≡ natAbs (w′ -ℤ y′)) where
-          past-same : past ≡ natAbs (z -ℤ y0Of s (rowOf s z))
-          past-same = p ∙ rw (g ∙ k, same, e)
+        module _ (past′ gap′ : ℕ) (p : past′ ≡ natAbs (z′ -ℤ y′)) (q : gap′ ≡ natAbs (w′ -ℤ y′)) where
+          past-same : past′ ≡ past row
+          past-same = p ∙ rw (g ∙ k, same)
 
-          gap-same : gap ≡ natAbs (y0Of s (rowOf s z + 1) -ℤ y0Of s (rowOf s z))
-          gap-same = q ∙ rw (g ∙ k, l ∙ m, e)
+          gap-same : gap′ ≡ gap row
+          gap-same = q ∙ rw (g ∙ k, l ∙ m)
 
-          pub past-asks : past ≤ mostGap
-          past-asks = omega (arith, past-same, past-gap there, gap-most there)
+          pub seconds-ask : (past′ ≤ mostGap) × (0 < gap′) × (gap′ ≤ mostGap)
+          seconds-ask = rw (past-same, gap-same) (le-trans past-most gap-most, gap-some, gap-most)
 
-          pub gap-some : 0 < gap
-          gap-some = omega (arith, gap-same, past-gap there)
+          pub seconds-are : (step r : ℕ) (half : Bool) → step ≡ stepOf latitude → r ≡ seconds step past′ gap′ → half ≡ secondsHalf step past′ gap′
+              → (row * stepOf latitude + r ≡ distanceOf s z) × (r ≤ stepOf latitude) × (half ≡ distanceHalf s z)
+          seconds-are step r half st a b =
+              let its : r ≡ secondsAt row = a ∙ rw (st, past-same, gap-same) in
+              (rw its distance-is, rw its seconds-most, b ∙ rw (st, past-same, gap-same) half-is)
 
-          pub gap-asks : gap ≤ mostGap
-          gap-asks = rw gap-same (gap-most there)
+  -- where it has a next row, what lies past it is less than the gap
+  pub past-gap : rowOf s z + 1 < n → natAbs (z -ℤ y0Of s (rowOf s z)) < natAbs (y0Of s (rowOf s z + 1) -ℤ y0Of s (rowOf s z))
+  past-gap next =
+      let its : rowOf s z ≡ min (rowOf s z) (n - 2) = omega arith in
+      omega (arith, past-is (rowOf s z) its, gap-is (rowOf s z) its, not-above (rowOf s z) its, next-above next)
 
-          pub seconds-are : (step r : ℕ) → step ≡ stepOf latitude → r ≡ seconds step past gap → r ≡ secondsPast s z row
-          unfolding secondsPast
-          seconds-are step r st a =
-              a ∙ rw (st, past-same, gap-same, e)
-              (sym (where-below (rowOf s z + 1) n (seconds (stepOf latitude) (natAbs (z -ℤ y0Of s (rowOf s z))) (natAbs (y0Of s (rowOf s z + 1) -ℤ y0Of s (rowOf s z)))) 0 there))
-
-          pub seconds-marked : (step : ℕ) (half : Bool) → step ≡ stepOf latitude → half ≡ secondsHalf step past gap → half ≡ secondsPastHalf s z row
-          unfolding secondsPastHalf
-          seconds-marked step half st a =
-              a ∙ rw (st, past-same, gap-same, e)
-              (sym (where-below (rowOf s z + 1) n (secondsHalf (stepOf latitude) (natAbs (z -ℤ y0Of s (rowOf s z))) (natAbs (y0Of s (rowOf s z + 1) -ℤ y0Of s (rowOf s z)))) false there))
-
-    pub no-seconds-half : n ≤ row + 1 → false ≡ secondsPastHalf s z row
-    unfolding secondsPastHalf
-    no-seconds-half h = sym (where-beyond (row + 1) n _ false h)
-
-    pub no-seconds : n ≤ row + 1 → 0 ≡ secondsPast s z row
-    unfolding secondsPast
-    no-seconds h = sym (where-beyond (row + 1) n _ 0 h)
-
-    -- its distance
-    module _ (step seconds : ℕ) (st : step ≡ stepOf latitude) (se : seconds ≡ secondsPast s z row) where
-      pub distance-are : row * step + seconds ≡ distanceOf s z
-      unfolding distanceOf
-      distance-are = rw (se, st, e)
-
-      pub distance-known : row * step + seconds ≤ (n - 1) * stepOf latitude
-      distance-known = rw distance-are distance-most
-
-      pub distance-fits : Fits w64 (row * step + seconds)
-      distance-fits = record { fits = omega (arith, distance-known, latitude-span s ok) }
-
-    pub row-step-fits : (step : ℕ) → step ≡ stepOf latitude → Fits w64 (row * step)
-    row-step-fits step st = record { fits = rw st (omega (arith, row-below, count-small s latitude ok (lit≤ tt) (lit≤ tt))) }
+  -- the latitude lies from row 0 to the last
+  pub distance-most : distanceOf s z ≤ (n - 1) * stepOf latitude
+  distance-most =
+      let row = min (rowOf s z) (n - 2) in
+      rw (← distance-is row refl) (past-reach n row (secondsAt row) (stepOf latitude) (next-there row refl) (seconds-most row refl))

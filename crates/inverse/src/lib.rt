@@ -2,9 +2,10 @@
 use entries::Places;
 use figures::Rounded;
 use figures::RoundedSize;
+use tables::At;
 ghost use mathlib.Core.Path.{_≡_};
 ghost use mathlib.Core.Bool.{true};
-ghost use Prim.Native.Nat.{_-_, _*_, _^_, _<_, _≤_};
+ghost use Prim.Native.Nat.{_+_, _-_, _*_, _^_, _<_, _≤_, min};
 ghost use lib.IntN.{pos, natAbs, _-ℤ_};
 ghost use lib.Signed.{leZ};
 ghost use Rattle.figures.specs.Ranges.{mostGap};
@@ -14,7 +15,7 @@ ghost use Rattle.bodies.specs.Check.{checkOf};
 ghost use Rattle.steps.specs.Steps.{approximateLHalf};
 ghost use Rattle.tables.specs.Figures.{hAt};
 ghost use Rattle.extent.specs.Extent.{sizeKnown, eastingKnown, northingKnown, reducedKnown};
-ghost use Rattle.inverse.specs.Inverse.{reducedNorthing, reducedHalf, rowOf, secondsPast, secondsPastHalf, distanceOf, distanceHalf, approximateOf, sizeOf, sizeHalf, geographicAt, fromDistance, fromReduced, inverseOf};
+ghost use Rattle.inverse.specs.Inverse.{reducedNorthing, reducedHalf, rowOf, distanceOf, distanceHalf, approximateOf, sizeOf, sizeHalf, geographicAt, fromDistance, fromReduced, inverseOf};
 
 // A point on the earth: latitude and west longitude in 0.001″, and whether some rounding on the way to them met a half. A refusal has its number, zeros and no half.
 pub struct Geographic {
@@ -47,46 +48,26 @@ fn above(low: i64, high: i64) -> u64
     (high - low) as u64
 }
 
-// The seconds of the reduced northing past its row, in 0.001″.
+// The seconds of the reduced northing past its row, in 0.001″, or past the one before where its row is the last. There they are the whole step and no half.
 fn seconds_past(s: &[u8], p: Places, reduced: i64, row: usize) -> RoundedSize
-    requires { ⌜ (checkOf (now s) .number ≡ 0) × (p ≡ placesOf (now s)) × (reducedKnown (now s) reduced ≡ true) × (row ≡ rowOf (now s) reduced) ⌝ }
-    ensures { λ r. ⌜ (r .value ≡ secondsPast (now (s .entry)) reduced row) × (r .half ≡ secondsPastHalf (now (s .entry)) reduced row) ⌝ }
+    requires { ⌜ (checkOf (now s) .number ≡ 0) × (p ≡ placesOf (now s)) × (reducedKnown (now s) reduced ≡ true) × (row ≡ min (rowOf (now s) reduced) (rowsOf (now s) latitude - 2)) ⌝ }
+    ensures { λ r. ⌜ (row * stepOf latitude + r .value ≡ distanceOf (now (s .entry)) reduced) × (r .value ≤ stepOf latitude) × (r .half ≡ distanceHalf (now (s .entry)) reduced) ⌝ }
 {
-    if row + 1 < p.latitude.rows {
-        let y0 = tables::y0_of(s, p, row);
-        let next = tables::y0_of(s, p, row + 1);
-        steps::seconds(
-            entries::step_of(entries::LATITUDE),
-            above(y0, reduced),
-            above(y0, next),
-        )
-    } else {
-        RoundedSize {
-            value: 0,
-            half: false,
-        }
-    }
+    let y0 = tables::y0_of(s, p, row);
+    let next = tables::y0_of(s, p, row + 1);
+    steps::seconds(
+        entries::step_of(entries::LATITUDE),
+        above(y0, reduced),
+        above(y0, next),
+    )
 }
 
-// The distance of the reduced northing's latitude from row 0, in 0.001″.
-fn distance_of(s: &[u8], p: Places, reduced: i64) -> RoundedSize
-    requires { ⌜ (checkOf (now s) .number ≡ 0) × (p ≡ placesOf (now s)) × (reducedKnown (now s) reduced ≡ true) × (natAbs reduced < 2 ^ 62) ⌝ }
-    ensures { λ r. ⌜ (r .value ≡ distanceOf (now (s .entry)) reduced) × (r .value ≤ (rowsOf (now (s .entry)) latitude - 1) * stepOf latitude) × (r .half ≡ distanceHalf (now (s .entry)) reduced) ⌝ }
+// Approximate L, in 0.001″, at the size x of x′ and the latitude's place.
+fn approximate_of(s: &[u8], p: Places, x: u64, at: At) -> RoundedSize
+    requires { ⌜ (checkOf (now s) .number ≡ 0) × (p ≡ placesOf (now s)) × (x ≤ (rowsOf (now s) easting - 1) * stepOf easting) × (at .row + 1 < rowsOf (now s) latitude) × (at .past ≤ stepOf latitude) ⌝ }
+    ensures { λ r. ⌜ (r .value ≡ approximateOf (now (s .entry)) x (at .row * stepOf latitude + at .past)) × (r .value ≤ 30_000_000) × (r .half ≡ approximateLHalf x (hAt (now (s .entry)) (at .row * stepOf latitude + at .past))) ⌝ }
 {
-    let row = tables::row_of(s, p.latitude, reduced);
-    let seconds = seconds_past(s, p, reduced, row);
-    RoundedSize {
-        value: (row as u64) * entries::step_of(entries::LATITUDE) + seconds.value,
-        half: seconds.half,
-    }
-}
-
-// Approximate L, in 0.001″, at the size x of x′ and the latitude's distance t from row 0.
-fn approximate_of(s: &[u8], p: Places, x: u64, t: u64) -> RoundedSize
-    requires { ⌜ (checkOf (now s) .number ≡ 0) × (p ≡ placesOf (now s)) × (x ≤ (rowsOf (now s) easting - 1) * stepOf easting) × (t ≤ (rowsOf (now s) latitude - 1) * stepOf latitude) ⌝ }
-    ensures { λ r. ⌜ (r .value ≡ approximateOf (now (s .entry)) x t) × (r .value ≤ 30_000_000) × (r .half ≡ approximateLHalf x (hAt (now (s .entry)) t)) ⌝ }
-{
-    let l = steps::approximate_l(x, tables::h_at(s, p, t).value);
+    let l = steps::approximate_l(x, tables::h_past(s, p, at).value);
     RoundedSize {
         value: l.value * 1_000,
         half: l.half,
@@ -94,12 +75,12 @@ fn approximate_of(s: &[u8], p: Places, x: u64, t: u64) -> RoundedSize
 }
 
 // The size of L there, in 0.001″.
-fn size_of(s: &[u8], p: Places, x: u64, t: u64, approximate: RoundedSize) -> Rounded
-    requires { ⌜ (checkOf (now s) .number ≡ 0) × (p ≡ placesOf (now s)) × (x ≤ (rowsOf (now s) easting - 1) * stepOf easting) × (t ≤ (rowsOf (now s) latitude - 1) * stepOf latitude) × (approximate .value ≡ approximateOf (now s) x t) × (sizeKnown (now s) (pos (approximate .value)) ≡ true) × (approximate .half ≡ approximateLHalf x (hAt (now s) t)) ⌝ }
-    ensures { λ r. ⌜ (r .value ≡ sizeOf (now (s .entry)) x t) × (r .half ≡ sizeHalf (now (s .entry)) x t) ⌝ }
+fn size_of(s: &[u8], p: Places, x: u64, at: At, approximate: RoundedSize) -> Rounded
+    requires { ⌜ (checkOf (now s) .number ≡ 0) × (p ≡ placesOf (now s)) × (x ≤ (rowsOf (now s) easting - 1) * stepOf easting) × (at .row + 1 < rowsOf (now s) latitude) × (at .past ≤ stepOf latitude) × (approximate .value ≡ approximateOf (now s) x (at .row * stepOf latitude + at .past)) × (sizeKnown (now s) (pos (approximate .value)) ≡ true) × (approximate .half ≡ approximateLHalf x (hAt (now s) (at .row * stepOf latitude + at .past))) ⌝ }
+    ensures { λ r. ⌜ (r .value ≡ sizeOf (now (s .entry)) x (at .row * stepOf latitude + at .past)) × (r .half ≡ sizeHalf (now (s .entry)) x (at .row * stepOf latitude + at .past)) ⌝ }
 {
-    let h = tables::h_at(s, p, t);
-    let a = tables::a_at(s, p, t);
+    let h = tables::h_past(s, p, at);
+    let a = tables::a_past(s, p, at);
     let b = tables::b_at(s, p, approximate.value);
     let l = steps::size_of_l(x, a.value, b.value, h.value);
     Rounded {
@@ -108,11 +89,12 @@ fn size_of(s: &[u8], p: Places, x: u64, t: u64, approximate: RoundedSize) -> Rou
     }
 }
 
-// The point on the earth, of x′, the latitude's distance t from row 0 and the size of L, which is within its table.
-fn geographic_at(s: &[u8], p: Places, xp: i64, t: u64, size: Rounded, met: bool) -> Geographic
-    requires { ⌜ (checkOf (now s) .number ≡ 0) × (p ≡ placesOf (now s)) × (t ≤ (rowsOf (now s) latitude - 1) * stepOf latitude) × (size .value ≡ sizeOf (now s) (natAbs xp) t) × (sizeKnown (now s) (size .value) ≡ true) × (size .half ≡ sizeHalf (now s) (natAbs xp) t) ⌝ }
-    ensures { λ r. ⌜ r ≡ geographicAt (now (s .entry)) xp t met ⌝ }
+// The point on the earth, of x′, the latitude's place and the size of L, which is within its table.
+fn geographic_at(s: &[u8], p: Places, xp: i64, at: At, size: Rounded, met: bool) -> Geographic
+    requires { ⌜ (checkOf (now s) .number ≡ 0) × (p ≡ placesOf (now s)) × (at .row + 1 < rowsOf (now s) latitude) × (at .past ≤ stepOf latitude) × (size .value ≡ sizeOf (now s) (natAbs xp) (at .row * stepOf latitude + at .past)) × (sizeKnown (now s) (size .value) ≡ true) × (size .half ≡ sizeHalf (now s) (natAbs xp) (at .row * stepOf latitude + at .past)) ⌝ }
+    ensures { λ r. ⌜ r ≡ geographicAt (now (s .entry)) xp (at .row * stepOf latitude + at .past) met ⌝ }
 {
+    let t = (at.row as u64) * entries::step_of(entries::LATITUDE) + at.past;
     Geographic {
         number: 0,
         latitude: (tables::first_latitude(s, p) + (t as i64)) as i32,
@@ -121,13 +103,13 @@ fn geographic_at(s: &[u8], p: Places, xp: i64, t: u64, size: Rounded, met: bool)
     }
 }
 
-// 11, or the point on the earth, from x′ and the latitude's distance t from row 0. `met`, here and below: some rounding before met a half.
-fn from_distance(s: &[u8], p: Places, xp: i64, t: u64, met: bool) -> Geographic
-    requires { ⌜ (checkOf (now s) .number ≡ 0) × (p ≡ placesOf (now s)) × (eastingKnown (now s) xp ≡ true) × (t ≤ (rowsOf (now s) latitude - 1) * stepOf latitude) ⌝ }
-    ensures { λ r. ⌜ r ≡ fromDistance (now (s .entry)) xp t met ⌝ }
+// 11, or the point on the earth, from x′ and the latitude's place. `met`, here and below: some rounding before met a half.
+fn from_distance(s: &[u8], p: Places, xp: i64, at: At, met: bool) -> Geographic
+    requires { ⌜ (checkOf (now s) .number ≡ 0) × (p ≡ placesOf (now s)) × (eastingKnown (now s) xp ≡ true) × (at .row + 1 < rowsOf (now s) latitude) × (at .past ≤ stepOf latitude) ⌝ }
+    ensures { λ r. ⌜ r ≡ fromDistance (now (s .entry)) xp (at .row * stepOf latitude + at .past) met ⌝ }
 {
     let x = figures::size(xp);
-    let approximate = approximate_of(s, p, x, t);
+    let approximate = approximate_of(s, p, x, at);
     if !extent::size_known(s, p, approximate.value as i64) {
         return Geographic {
             number: 11,
@@ -136,7 +118,7 @@ fn from_distance(s: &[u8], p: Places, xp: i64, t: u64, met: bool) -> Geographic
             half: false,
         };
     }
-    let size = size_of(s, p, x, t, approximate);
+    let size = size_of(s, p, x, at, approximate);
     if !extent::size_known(s, p, size.value) {
         return Geographic {
             number: 11,
@@ -145,7 +127,7 @@ fn from_distance(s: &[u8], p: Places, xp: i64, t: u64, met: bool) -> Geographic
             half: false,
         };
     }
-    geographic_at(s, p, xp, t, size, met)
+    geographic_at(s, p, xp, at, size, met)
 }
 
 // 14, 11, or the point on the earth, from x′ and the reduced northing.
@@ -161,8 +143,13 @@ fn from_reduced(s: &[u8], p: Places, xp: i64, reduced: i64, met: bool) -> Geogra
             half: false,
         };
     }
-    let t = distance_of(s, p, reduced);
-    from_distance(s, p, xp, t.value, met | t.half)
+    let row = tables::row_with_next(s, p.latitude, reduced);
+    let seconds = seconds_past(s, p, reduced, row);
+    let at = At {
+        row,
+        past: seconds.value,
+    };
+    from_distance(s, p, xp, at, met | seconds.half)
 }
 
 // Plane to geographic: 12, 13, 14, 11, or latitude and longitude.

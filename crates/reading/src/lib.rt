@@ -11,7 +11,7 @@ ghost use Rattle.figures.specs.Ranges.{mostCount, mostStep};
 ghost use Rattle.reading.specs.Tables.{column, pastRow, pastRowHalf, valueAt, valueHalf, withinRows, NotNegative};
 
 // The value of column c at t past row i, for a body of w words in a row. There is a next row, and t is up to the step.
-fn past_row(b: &[u8], w: usize, c: usize, i: usize, t: u64, step: u64) -> Rounded
+pub fn past_row(b: &[u8], w: usize, c: usize, i: usize, t: u64, step: u64) -> Rounded
     requires { ⌜ (4 * (w * i + c + w) + 4 ≤ length (now b)) × (t ≤ step) × (step ≤ mostStep) × (0 < step) ⌝ }
     ensures { λ r. ⌜ (r .value ≡ pastRow (column (now (b .entry)) w c) i t step) × (r .half ≡ pastRowHalf (column (now (b .entry)) w c) i t step) ⌝ }
 {
@@ -25,7 +25,7 @@ fn past_row(b: &[u8], w: usize, c: usize, i: usize, t: u64, step: u64) -> Rounde
 }
 
 // The same where no figure of the column is negative: the words are read without a sign.
-fn size_past_row(b: &[u8], w: usize, c: usize, i: usize, t: u64, step: u64) -> RoundedSize
+pub fn size_past_row(b: &[u8], w: usize, c: usize, i: usize, t: u64, step: u64) -> RoundedSize
     requires { ⌜ (4 * (w * i + c + w) + 4 ≤ length (now b)) × (t ≤ step) × (step ≤ mostStep) × (0 < step) × (leZ (pos 0) (column (now b) w c i) ≡ true) × (leZ (pos 0) (column (now b) w c (i + 1)) ≡ true) ⌝ }
     ensures { λ r. ⌜ (pos (r .value) ≡ pastRow (column (now (b .entry)) w c) i t step) × (r .half ≡ pastRowHalf (column (now (b .entry)) w c) i t step) ⌝ }
 {

@@ -1,15 +1,15 @@
 -- What the last row not above z is: one of the rows; its figure is not above z where row 0's is not; every later row's figure is above z; and in a rising
 -- column it is the only row whose figure is not above z and that is the last of all or has the next one's figure above z. Assumes nothing.
-use mathlib.Core.Path.{_≡_, refl}
+use mathlib.Core.Path.{_≡_, refl, sym}
 use mathlib.Core.Bool.{Bool, true, false, cond}
-use Prim.Native.Nat.{ℕ, zero, suc, _+_, _<_}
+use Prim.Native.Nat.{ℕ, zero, suc, _+_, _-_, _<_, _≤_, min}
 use native.Mathlib.Decide.{decLt}
 use native.Mathlib.Numerals.{add-one}
 use native.Mathlib.Omega.{arith}
 use lib.IntN.{ℤ}
 use lib.Signed.{leZ, ltZ}
 use Rattle.row_search.specs.Rows.{lastNotAbove, Rising}
-use Rattle.figures.proofs.Order.{above-of, not-above-of, ltZ-trans}
+use Rattle.figures.proofs.Order.{above-of, not-above-of, leZ-trans, ltZ-trans, ltZ-le}
 
 module _ (f : ℕ → ℤ) (z : ℤ) where
   -- it is one of the n rows
@@ -71,3 +71,21 @@ module _ (f : ℕ → ℤ) (z : ℤ) where
   -- it is the only row whose figure is not above z and that has none after it, or one above z
   pub only-last : (n r : ℕ) → Rising f n → r < n → leZ (f r) z ≡ true → (r + 1 < n → ltZ z (f (r + 1)) ≡ true) → r ≡ lastNotAbove f n z
   only-last n r up l e next = by-later n r l e (all-later n r up next)
+
+  -- without the last of n rows it is the same row, or the one before the last
+  pub but-last : (n : ℕ) → 2 ≤ n → Rising f n → leZ (f 0) z ≡ true → lastNotAbove f (n - 1) z ≡ min (lastNotAbove f n z) (n - 2)
+  unfolding Rising
+  but-last n two up first = sym (only-last (n - 1) row (λ i l. up i (omega arith)) (omega arith) (pick (decLt (n - 2) last)) (λ l. later-above n (row + 1) (omega arith) (omega arith)))
+    where
+      last : ℕ
+      last = lastNotAbove f n z
+
+      row : ℕ
+      row = min last (n - 2)
+
+      pick : Dec (n - 2 < last) → leZ (f row) z ≡ true
+      pick (yes h) =
+          let e : row ≡ n - 2 = omega arith in
+          let after : last ≡ n - 2 + 1 = omega (arith, last-below n (omega arith)) in
+          rw e (leZ-trans (f (n - 2)) (f (n - 2 + 1)) z (ltZ-le (f (n - 2)) (f (n - 2 + 1)) (up (n - 2) (omega arith))) (rw after at (last-not-above n first)))
+      pick (no h) = let e : row ≡ last = omega arith in rw e (last-not-above n first)

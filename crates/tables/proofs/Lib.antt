@@ -4,3 +4,4 @@ pub mod Ranges
 pub mod ByName
 pub mod Answers
 pub mod Northings
+pub mod Past

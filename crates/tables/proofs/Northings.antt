@@ -2,7 +2,9 @@
 use mathlib.Core.Path.{_≡_, ap, _∙_}
 use mathlib.Core.Bool.{true}
 use mathlib.Core.List.{List}
-use Prim.Native.Nat.{ℕ, _+_, _*_, _^_, _<_, _≤_}
+use Prim.Native.Nat.{ℕ, _+_, _*_, _-_, _^_, _<_, _≤_, min}
+use native.Mathlib.Nat.{mul-le-mul-left}
+use native.Mathlib.Omega.{arith}
 use lib.Dec.{lit<, lit≤}
 use lib.IntN.{ℤ, natAbs}
 use lib.ListN.{length}
@@ -17,9 +19,11 @@ use Rattle.bodies.specs.Check.{checkOf}
 use Rattle.bodies.proofs.Parts.{part-within, words-fit, start-fits, bytes-fit, end-fits}
 use Rattle.reading.specs.Tables.{column}
 use Rattle.row_search.specs.Rows.{lastNotAbove, RisesBy}
+use Rattle.row_search.proofs.LastRow.{but-last}
+use Rattle.row_search.proofs.Rising.{rises-rising}
 use Rattle.tables.specs.Figures.{y0Of}
 use Rattle.tables.proofs.Parts.{contents-none, cut, part-long}
-use Rattle.tables.proofs.Ranges.{latitude-some, y0-rises}
+use Rattle.tables.proofs.Ranges.{latitude-some, latitude-two, y0-rises}
 
 module _ (s : List ℕ) (p : Place) (width : ℕ) (e : p ≡ placeOf s latitude) (w : width ≡ widthOf latitude) where
   abbrev lent : ℕ → ℤ
@@ -32,6 +36,11 @@ module _ (s : List ℕ) (p : Place) (width : ℕ) (e : p ≡ placeOf s latitude)
   pub lent-rises : checkOf s .number ≡ 0 → RisesBy lent (p .rows) 600_000 615_000
   lent-rises z = rw (lent-is, e) (y0-rises s z)
 
+  -- of its rows but the last too
+  pub rows-before-rise : checkOf s .number ≡ 0 → RisesBy lent (p .rows - 1) 600_000 615_000
+  unfolding RisesBy
+  rows-before-rise z i l = lent-rises z i (omega arith)
+
   module _ (y z : ℤ) (same : y ≡ z) where
     pub lent-first : leZ (y0Of s 0) z ≡ true → leZ (lent 0) y ≡ true
     lent-first h = ap (λ (f : ℕ → ℤ). leZ (f 0) y) lent-is ∙ rw same h
@@ -41,6 +50,11 @@ module _ (s : List ℕ) (p : Place) (width : ℕ) (e : p ≡ placeOf s latitude)
 
     pub lent-row : (r : ℕ) → r ≡ lastNotAbove lent (p .rows) y → r ≡ lastNotAbove (y0Of s) (rowsOf s latitude) z
     lent-row r q = q ∙ rw (lent-is, same, e)
+
+    pub row-with-next-is : checkOf s .number ≡ 0 → leZ (y0Of s 0) z ≡ true → (r : ℕ) → r ≡ lastNotAbove lent (p .rows - 1) y
+        → r ≡ min (lastNotAbove (y0Of s) (rowsOf s latitude) z) (rowsOf s latitude - 2)
+    row-with-next-is ok first r q =
+        q ∙ rw (lent-is, same, e) (but-last (y0Of s) z (rowsOf s latitude) (latitude-two s ok) (rises-rising (y0Of s) (rowsOf s latitude) 600_000 615_000 (y0-rises s ok) (lit< tt)) first)
 
   -- what cutting it asks
   module _ (z : checkOf s .number ≡ 0) where
@@ -65,6 +79,13 @@ module _ (s : List ℕ) (p : Place) (width : ℕ) (e : p ≡ placeOf s latitude)
 
     pub lent-long : 4 * (width * p .rows) ≤ length (cut s (p .start) (p .rows * width))
     lent-long = part-long s latitude z (lit≤ tt) (lit≤ tt) p width e w
+
+    -- and its rows but the last
+    pub before-some : 0 < p .rows - 1
+    before-some = rw e (omega (arith, latitude-two s z))
+
+    pub before-long : 4 * (width * (p .rows - 1)) ≤ length (cut s (p .start) (p .rows * width))
+    before-long = omega (arith, lent-long, mul-le-mul-left {m = p .rows - 1} {n = p .rows} width (omega arith))
 
     pub lent-column : 1 < width
     lent-column = rw w (lit< tt)

@@ -17,7 +17,7 @@ use Rattle.rows.proofs.PassingFigures.{minute-in-range, figures-in-range, figur
 use Rattle.small_rows.proofs.PassingFigures.{b-most}
 use Rattle.entries.specs.Layout.{lastKind, zone, latitude, longitude, northing, easting, scale, stepOf}
 use Rattle.entries.specs.Entries.{rowsOf, bodyOf}
-use Rattle.contents.proofs.Passing.{rows-some}
+use Rattle.contents.proofs.Passing.{rows-least, rows-some}
 use Rattle.bodies.specs.Check.{checkOf}
 use Rattle.bodies.proofs.Sound.{passes-sound, zone-rows, latitude-rows, longitude-rows, northing-rows, easting-rows, scale-rows}
 use Rattle.reading.specs.Tables.{NotNegative}
@@ -48,6 +48,9 @@ module _ (s : List ℕ) (z : checkOf s .number ≡ 0) where
 
   pub latitude-some : 0 < rowsOf s latitude
   latitude-some = some latitude (omega arith) (omega arith)
+
+  pub latitude-two : 2 ≤ rowsOf s latitude
+  latitude-two = rows-least s (contents-none s z) latitude (lit≤ tt) (lit≤ tt)
 
   -- ---- zone
   pub central-size : Size 6_000_000 (centralMeridian s) 642_000_000

@@ -5,7 +5,7 @@ use figures::Rounded;
 use figures::RoundedSize;
 ghost use mathlib.Core.Path.{_≡_};
 ghost use mathlib.Core.Bool.{true};
-ghost use Prim.Native.Nat.{_+_, _-_, _*_, _^_, _<_, _≤_};
+ghost use Prim.Native.Nat.{_+_, _-_, _*_, _^_, _<_, _≤_, min};
 ghost use lib.IntN.{pos, natAbs};
 ghost use lib.Signed.{leZ};
 ghost use Rattle.figures.specs.Ranges.{mostH, mostV, mostA, mostB, mostC, mostP, mostM, mostD};
@@ -15,6 +15,12 @@ ghost use Rattle.bodies.specs.Check.{checkOf};
 ghost use Rattle.reading.specs.Tables.{NotNegative};
 ghost use Rattle.row_search.specs.Rows.{lastNotAbove};
 ghost use Rattle.tables.specs.Figures.{figureOf, figureAt, figureHalf, centralMeridian, falseEasting, firstLatitude, y0Of, y0At, y0Half, hAt, hHalf, vAt, vHalf, aAt, aHalf, bAt, bHalf, cAt, cHalf, pAt, pHalf, mAt, mHalf, dAt, dHalf, kAt, kHalf};
+
+// A place among the latitude rows: so much past a row that has a next, in 0.001″, up to a whole step.
+pub struct At {
+    pub row: usize,
+    pub past: u64,
+}
 
 // The figure in row i of a column of the kind, where it is not negative. The body is lent on as the part of the sheet that holds it.
 fn figure_of(s: &[u8], place: Place, kind: usize, number: usize, i: usize) -> i64
@@ -108,6 +114,18 @@ pub fn row_of(s: &[u8], place: Place, z: i64) -> usize
     row_search::row_of(&s[a..end], w, 1, n, 600_000, 615_000, z)
 }
 
+// The same row, or the one before it where that is the last, so that there is a next: the last row is not looked at.
+pub fn row_with_next(s: &[u8], place: Place, z: i64) -> usize
+    requires { ⌜ (checkOf (now s) .number ≡ 0) × (place ≡ placeOf (now s) latitude) × (leZ (y0Of (now s) 0) z ≡ true) × (natAbs z < 2 ^ 62) ⌝ }
+    ensures { λ r. ⌜ r ≡ min (lastNotAbove (y0Of (now (s .entry))) (rowsOf (now (s .entry)) latitude) z) (rowsOf (now (s .entry)) latitude - 2) ⌝ }
+{
+    let n = place.rows;
+    let w = entries::width_of(entries::LATITUDE);
+    let a = 4 * place.start;
+    let end = a + 4 * (n * w);
+    row_search::row_of(&s[a..end], w, 1, n - 1, 600_000, 615_000, z)
+}
+
 // y0 at t from row 0, in 0.01 ft.
 pub fn y0_at(s: &[u8], p: Places, t: u64) -> Rounded
     requires { ⌜ (checkOf (now s) .number ≡ 0) × (p ≡ placesOf (now s)) × (t ≤ (rowsOf (now s) latitude - 1) * stepOf latitude) ⌝ }
@@ -128,6 +146,25 @@ pub fn h_at(s: &[u8], p: Places, t: u64) -> RoundedSize
     size_at(s, p.latitude, entries::LATITUDE, 3, t)
 }
 
+// H at a place past a row, in 0.000001. The row is known, and nothing is divided to find it.
+pub fn h_past(s: &[u8], p: Places, at: At) -> RoundedSize
+    requires { ⌜ (checkOf (now s) .number ≡ 0) × (p ≡ placesOf (now s)) × (at .row + 1 < rowsOf (now s) latitude) × (at .past ≤ stepOf latitude) ⌝ }
+    ensures { λ r. ⌜ (r .value ≡ hAt (now (s .entry)) (at .row * stepOf latitude + at .past)) × (30_000_000 ≤ r .value) × (r .value ≤ mostH) × (r .half ≡ hHalf (now (s .entry)) (at .row * stepOf latitude + at .past)) ⌝ }
+{
+    let place = p.latitude;
+    let w = entries::width_of(entries::LATITUDE);
+    let a = 4 * place.start;
+    let z = a + 4 * (place.rows * w);
+    reading::size_past_row(
+        &s[a..z],
+        w,
+        3,
+        at.row,
+        at.past,
+        entries::step_of(entries::LATITUDE),
+    )
+}
+
 // V at t from row 0, in 0.000001.
 pub fn v_at(s: &[u8], p: Places, t: u64) -> RoundedSize
     requires { ⌜ (checkOf (now s) .number ≡ 0) × (p ≡ placesOf (now s)) × (t ≤ (rowsOf (now s) latitude - 1) * stepOf latitude) ⌝ }
@@ -142,6 +179,25 @@ pub fn a_at(s: &[u8], p: Places, t: u64) -> Rounded
     ensures { λ r. ⌜ (r .value ≡ aAt (now (s .entry)) t) × (natAbs (r .value) ≤ mostA) × (r .half ≡ aHalf (now (s .entry)) t) ⌝ }
 {
     figure_at(s, p.latitude, entries::LATITUDE, 7, t)
+}
+
+// a at a place past a row, in 0.001.
+pub fn a_past(s: &[u8], p: Places, at: At) -> Rounded
+    requires { ⌜ (checkOf (now s) .number ≡ 0) × (p ≡ placesOf (now s)) × (at .row + 1 < rowsOf (now s) latitude) × (at .past ≤ stepOf latitude) ⌝ }
+    ensures { λ r. ⌜ (r .value ≡ aAt (now (s .entry)) (at .row * stepOf latitude + at .past)) × (natAbs (r .value) ≤ mostA) × (r .half ≡ aHalf (now (s .entry)) (at .row * stepOf latitude + at .past)) ⌝ }
+{
+    let place = p.latitude;
+    let w = entries::width_of(entries::LATITUDE);
+    let a = 4 * place.start;
+    let z = a + 4 * (place.rows * w);
+    reading::past_row(
+        &s[a..z],
+        w,
+        7,
+        at.row,
+        at.past,
+        entries::step_of(entries::LATITUDE),
+    )
 }
 
 // b at a size of L, in 0.001.

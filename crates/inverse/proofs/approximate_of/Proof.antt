@@ -3,6 +3,7 @@ use mathlib.Core.Path.{_≡_, ap, _∙_}
 use Prim.Native.Nat.{ℕ, _*_, _≤_}
 use native.Mathlib.Omega.{arith}
 use denote.Ref.{now}
+use Rattle.tables.proofs.Past.{distanceAt, past-reach}
 use Rattle.inverse.specs.Inverse.{approximateOf}
 use Rattle.inverse.proofs.Longitudes.{x-small, approximate-worked, approximate-small}
 use borrow.Author.Needs.{needs}
@@ -10,28 +11,28 @@ use Rattle.inverse.proofs.approximate_of.Statement.{statement}
 use Rattle.inverse.proofs.approximate_of.Tie as tie
 
 approximate-is : (c : tie.After-approximate-l)
-    → let args = c .before .before .before .args in c .approximate-l .result .value * 1_000 ≡ approximateOf (now (args .s)) (args .x) (args .t)
-approximate-is c = ap (λ (n : ℕ). n * 1_000) (c .approximate-l .ensures .0) ∙ approximate-worked _ _ _ (c .before .h-at .ensures .0)
+    → let args = c .before .before .before .args in c .approximate-l .result .value * 1_000 ≡ approximateOf (now (args .s)) (args .x) (distanceAt (args .at))
+approximate-is c = ap (λ (n : ℕ). n * 1_000) (c .approximate-l .ensures .0) ∙ approximate-worked _ _ _ (c .before .h-past .ensures .0)
 
 small : (c : tie.After-approximate-l) → c .approximate-l .result .value * 1_000 ≤ 30_000_000
-small c = let p = c .before .before .before .pre in rw (approximate-is c) (approximate-small _ (p .0) _ _ (p .2) (p .3))
+small c = let p = c .before .before .before .pre in rw (approximate-is c) (approximate-small _ (p .0) _ _ (p .2) (past-reach _ _ _ _ (p .3) (p .4)))
 
 returns : tie.Need-returns
 returns c =
     let worked = c .before in
-    let h = worked .before .h-at .ensures .0 in
+    let h = worked .before .h-past .ensures .0 in
     (approximate-is worked, small worked, worked .approximate-l .ensures .1 ∙ rw h)
 
-h-at-requires : tie.Need-h-at-requires
-h-at-requires c κs = search needs
+h-past-requires : tie.Need-h-past-requires
+h-past-requires c κs = search needs
 
 approximate-l-requires : tie.Need-approximate-l-requires
 approximate-l-requires c κs =
     let p = c .before .before .pre in
-    (x-small _ (p .0) _ _ (p .2) (p .3), omega (arith, c .h-at .ensures .1), c .h-at .ensures .2)
+    (x-small _ (p .0) _ _ (p .2) (past-reach _ _ _ _ (p .3) (p .4)), omega (arith, c .h-past .ensures .1), c .h-past .ensures .2)
 
 mul-t7 : tie.Need-mul-t7
 mul-t7 c = record { fits = omega (arith, small (c .before)) }
 
 pub approximate-of-spec : {M : Type 1} → statement M
-approximate-of-spec = tie.close (tie.spec h-at-requires approximate-l-requires mul-t7 returns)
+approximate-of-spec = tie.close (tie.spec h-past-requires approximate-l-requires mul-t7 returns)

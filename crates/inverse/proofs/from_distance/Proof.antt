@@ -8,11 +8,11 @@ use mir.Syntax.{w64}
 use mir.Val.{toZ, ofZ}
 use Rattle.figures.proofs.Holds.{held-size}
 use Rattle.words.proofs.Refusals.{stop, go, kept}
+use Rattle.tables.proofs.Past.{distanceAt}
 use Rattle.extent.specs.Extent.{sizeKnown}
 use Rattle.extent.proofs.Reach.{easting-reach, easting-span}
 use Rattle.extent.proofs.Points.{size-small}
 use Rattle.inverse.specs.Inverse.{approximateOf, sizeOf, sizeHalf, fromDistance}
-use Rattle.figures.proofs.Bits.{bits-is}
 use borrow.Author.Needs.{needs}
 use Rattle.inverse.proofs.from_distance.Statement.{statement}
 use Rattle.inverse.proofs.from_distance.Tie as tie
@@ -24,12 +24,12 @@ xp-is c = search needs
 x-is : (c : tie.After-size) → c .size .result ≡ natAbs (c .before .before .args .xp)
 x-is c = c .size .ensures ∙ ap natAbs (xp-is (c .before .before))
 
-approximate-is : (c : tie.After-approximate-of) → let args = c .before .before .before .args in c .approximate-of .result .value ≡ approximateOf (now (args .s)) (natAbs (args .xp)) (args .t)
+approximate-is : (c : tie.After-approximate-of) → let args = c .before .before .before .args in c .approximate-of .result .value ≡ approximateOf (now (args .s)) (natAbs (args .xp)) (distanceAt (args .at))
 approximate-is c = c .approximate-of .ensures .0 ∙ rw (x-is (c .before))
 
 -- the tests of both
 first-known : (c : tie.After-size-known)
-    → let args = c .before .before .before .before .before .args in c .size-known .result ≡ sizeKnown (now (args .s)) (pos (approximateOf (now (args .s)) (natAbs (args .xp)) (args .t)))
+    → let args = c .before .before .before .before .before .args in c .size-known .result ≡ sizeKnown (now (args .s)) (pos (approximateOf (now (args .s)) (natAbs (args .xp)) (distanceAt (args .at))))
 first-known c =
     let approximate = c .before .before in
     let same = held-size w64 (approximate .approximate-of .ensures .1) tt .is ∙ ap pos (approximate-is approximate) in
@@ -39,14 +39,14 @@ module _ (c : tie.After-size-of) where
   size-bits : toZ w64 (ofZ w64 (c .size-of .result .value)) ≡ c .size-of .result .value
   size-bits = search needs
 
-  size-is : let args = c .before .before .before .before .before .before .before .args in c .size-of .result .value ≡ sizeOf (now (args .s)) (natAbs (args .xp)) (args .t)
+  size-is : let args = c .before .before .before .before .before .before .before .args in c .size-of .result .value ≡ sizeOf (now (args .s)) (natAbs (args .xp)) (distanceAt (args .at))
   size-is = c .size-of .ensures .0 ∙ rw (x-is (c .before .before .before .before .before))
 
-  half-is : let args = c .before .before .before .before .before .before .before .args in c .size-of .result .half ≡ sizeHalf (now (args .s)) (natAbs (args .xp)) (args .t)
+  half-is : let args = c .before .before .before .before .before .before .before .args in c .size-of .result .half ≡ sizeHalf (now (args .s)) (natAbs (args .xp)) (distanceAt (args .at))
   half-is = c .size-of .ensures .1 ∙ rw (x-is (c .before .before .before .before .before))
 
 second-known : (c : tie.After-size-known2)
-    → let args = c .before .before .before .before .before .before .before .before .before .args in c .size-known2 .result ≡ sizeKnown (now (args .s)) (sizeOf (now (args .s)) (natAbs (args .xp)) (args .t))
+    → let args = c .before .before .before .before .before .before .before .before .before .args in c .size-known2 .result ≡ sizeKnown (now (args .s)) (sizeOf (now (args .s)) (natAbs (args .xp)) (distanceAt (args .at)))
 second-known c = c .size-known2 .ensures ∙ ap (sizeKnown _) (size-bits (c .before .before) ∙ size-is (c .before .before))
 
 returns : tie.Need-returns
@@ -76,7 +76,7 @@ size-requires c κs =
 approximate-of-requires : tie.Need-approximate-of-requires
 approximate-of-requires c κs =
     let p = c .before .before .pre in
-    (p .0, p .1, rw (x-is c) (easting-reach _ _ (p .2)), p .3)
+    (p .0, p .1, rw (x-is c) (easting-reach _ _ (p .2)), p .3, p .4)
 
 cast-size-known : tie.Need-cast-size-known
 cast-size-known c = search needs
@@ -89,7 +89,7 @@ size-of-requires c κs =
     let p = c .before .before .before .before .before .before .pre in
     let approximate = c .before .before .before .approximate-of in
     let known = rw (held-size w64 (approximate .ensures .1) tt .is) at (kept _ _ (c .before .size-known .ensures) (c .if1 .left)) in
-    (p .0, p .1, rw (x-is (c .before .before .before .before)) (easting-reach _ _ (p .2)), p .3, approximate .ensures .0, known, approximate .ensures .2)
+    (p .0, p .1, rw (x-is (c .before .before .before .before)) (easting-reach _ _ (p .2)), p .3, p .4, approximate .ensures .0, known, approximate .ensures .2)
 
 size-known-requires-2 : tie.Need-size-known-requires-2
 size-known-requires-2 c κs = search needs
@@ -100,7 +100,7 @@ geographic-at-requires c κs =
     let p = start .pre in
     let size = c .before .before .before in
     let known = rw (size-bits size) at (kept _ _ (c .before .size-known2 .ensures) (c .if2 .left)) in
-    (p .0, p .1, p .3, rw (xp-is start) (size-is size), known, rw (xp-is start) (half-is size))
+    (p .0, p .1, p .3, p .4, rw (xp-is start) (size-is size), known, rw (xp-is start) (half-is size))
 
 pub from-distance-spec : {M : Type 1} → statement M
 from-distance-spec =

@@ -4,8 +4,11 @@ use denote.Ref.{now}
 use mir.Syntax.{w64}
 use mir.Val.{toZ, ofZ}
 use Rattle.words.proofs.Refusals.{stop, go, kept}
+use Rattle.tables.proofs.ByName.{latitude-place}
 use Rattle.extent.specs.Extent.{reducedKnown}
-use Rattle.inverse.specs.Inverse.{fromReduced}
+use Rattle.extent.proofs.Reach.{reduced-reach}
+use Rattle.inverse.specs.Inverse.{rowOf, fromReduced}
+use Rattle.inverse.proofs.Distances.{next-there}
 use borrow.Author.Needs.{needs}
 use Rattle.inverse.proofs.from_reduced.Statement.{statement}
 use Rattle.inverse.proofs.from_reduced.Tie as tie
@@ -26,27 +29,43 @@ returns c = stop _ _ _ _ (known (c .before)) (c .if1 .taken)
 returns-2 : tie.Need-returns-2
 unfolding fromReduced
 returns-2 c =
-    let start = c .before .before .before .before .before .before in
-    let t = c .before .before .distance-of .ensures in
-    go _ _ _ _ _ (known (c .before .before .before .before)) (c .before .before .before .if1 .left)
-    (c .from-distance .ensures ∙ rw (xp-is start, t .0, t .2, reduced-is start))
+    let start = c .before .before .before .before .before .before .before in
+    let seconds = c .before .before .seconds-past .ensures in
+    go _ _ _ _ _ (known (c .before .before .before .before .before)) (c .before .before .before .before .if1 .left)
+    (c .from-distance .ensures ∙ rw (xp-is start, seconds .0, seconds .2, reduced-is start))
 
 reduced-known-requires : tie.Need-reduced-known-requires
 reduced-known-requires c κs = search needs
 
-distance-of-requires : tie.Need-distance-of-requires
-distance-of-requires c κs =
+row-with-next-requires : tie.Need-row-with-next-requires
+row-with-next-requires c κs =
     let start = c .before .before .before in
     let p = start .pre in
-    (p .0, p .1, kept _ _ (c .before .reduced-known .ensures) (c .if1 .left), rw (reduced-is start) (p .3))
+    let known = kept _ _ (c .before .reduced-known .ensures) (c .if1 .left) in
+    (p .0, latitude-place _ _ (p .1), reduced-reach _ _ known .0, rw (reduced-is start) (p .3))
+
+seconds-past-requires : tie.Need-seconds-past-requires
+unfolding rowOf
+seconds-past-requires c κs =
+    let start = c .before .before .before .before in
+    let p = start .pre in
+    (p .0, p .1, kept _ _ (c .before .before .reduced-known .ensures) (c .before .if1 .left), c .row-with-next .ensures)
 
 from-distance-requires : tie.Need-from-distance-requires
+unfolding rowOf
 from-distance-requires c κs =
-    let start = c .before .before .before .before .before in
+    let start = c .before .before .before .before .before .before in
     let p = start .pre in
-    (p .0, p .1, rw (xp-is start) (p .2), c .before .distance-of .ensures .1)
+    let known = kept _ _ (c .before .before .before .before .reduced-known .ensures) (c .before .before .before .if1 .left) in
+    (p .0, p .1, rw (xp-is start) (p .2), next-there _ (p .0) _ known _ (c .before .before .row-with-next .ensures), c .before .seconds-past .ensures .1)
 
 pub from-reduced-spec : {M : Type 1} → statement M
 from-reduced-spec =
     tie.close
-    (tie.spec reduced-known-requires returns distance-of-requires from-distance-requires returns-2)
+    (tie.spec
+    reduced-known-requires
+    returns
+    row-with-next-requires
+    seconds-past-requires
+    from-distance-requires
+    returns-2)

@@ -1,67 +1,45 @@
 -- `inverse::seconds_past` meets its contract. Assumes nothing.
 use mathlib.Core.Path.{_≡_}
-use Prim.Native.Nat.{_+_, _<_}
 use native.Mathlib.Nat.{le-trans}
 use lib.Dec.{lit≤}
-use denote.Ref.{now}
 use mir.Syntax.{w64}
 use mir.Val.{toZ, ofZ}
-use Rattle.entries.specs.Layout.{latitude}
-use Rattle.entries.specs.Entries.{rowsOf}
-use Rattle.extent.proofs.Counts.{count-is}
-use Rattle.inverse.proofs.Distances.{seconds-marked, no-seconds-half, z-most, row-below, next-fits, above-row, above-next, past-asks, gap-some, gap-asks, seconds-are, no-seconds}
+use Rattle.inverse.proofs.Distances.{z-most, next-there, row-below, next-fits, above-row, above-next, seconds-ask, seconds-are}
 use Rattle.figures.proofs.Bits.{bits-is, bits-most}
 use borrow.Author.Needs.{needs}
 use Rattle.inverse.proofs.seconds_past.Statement.{statement}
 use Rattle.inverse.proofs.seconds_past.Tie as tie
-
--- the row after it is there
-next-row : (c : tie.Then1) → let args = c .before .before .before .args in args .row + 1 < rowsOf (now (args .s)) latitude
-next-row c = let p = c .before .before .before .pre in rw (count-is _ (p .0) _ (p .1)) at (c .if1 .taken)
 
 reduced-is : (c : tie.Start) → toZ w64 (ofZ w64 (c .args .reduced)) ≡ c .args .reduced
 reduced-is c = search needs
 
 returns : tie.Need-returns
 returns c =
-    let start = c .before .before .before .before .before .before .before .before .before in
+    let start = c .before .before .before .before .before .before .before in
     let p = start .pre in
     let y0 = c .before .before .before .before .before .y0-of in
     let next = c .before .before .before .before .y0-of2 in
-    let there = next-row (c .before .before .before .before .before .before) in
-    let step = c .before .before .before .step-of .ensures in (
-      seconds-are _ (p .0) _ (p .2) _ (p .3) _ _ _ (bits-is (y0 .ok)) (y0 .ensures .0) (reduced-is start) _ _ (bits-is (next .ok)) (next .ensures .0) there _ _ (c .before .before .above .ensures) (c .before .above2 .ensures) _ _ step (c .seconds .ensures .0),
-      seconds-marked _ (p .0) _ (p .2) _ (p .3) _ _ _ (bits-is (y0 .ok)) (y0 .ensures .0) (reduced-is start) _ _ (bits-is (next .ok)) (next .ensures .0) there _ _ (c .before .before .above .ensures) (c .before .above2 .ensures) _ _ step (c .seconds .ensures .1),
-    )
-
-returns-2 : tie.Need-returns-2
-returns-2 c =
-    let p = c .before .before .before .pre in
-    let beyond = rw (count-is _ (p .0) _ (p .1)) at (c .if1 .left) in
-    (no-seconds _ (p .0) _ (p .2) _ (p .3) beyond, no-seconds-half _ (p .0) _ (p .2) _ (p .3) beyond)
-
-add-if1 : tie.Need-add-if1
-add-if1 c = let p = c .before .pre in next-fits _ (p .0) _ (p .2) _ (p .3)
+    seconds-are _ (p .0) _ (p .2) _ (p .3) _ _ _ (bits-is (y0 .ok)) (y0 .ensures .0) (reduced-is start) _ _ (bits-is (next .ok)) (next .ensures .0) _ _ (c .before .before .above .ensures) (c .before .above2 .ensures) _ _ _ (c .before .before .before .step-of .ensures) (c .seconds .ensures .0) (c .seconds .ensures .1)
 
 y0-of-requires : tie.Need-y0-of-requires
 y0-of-requires c κs =
-    let p = c .before .before .before .pre in
+    let p = c .before .pre in
     (p .0, p .1, row-below _ (p .0) _ (p .2) _ (p .3))
 
 add-y0-of : tie.Need-add-y0-of
-add-y0-of c = search needs
+add-y0-of c = let p = c .before .before .pre in next-fits _ (p .0) _ (p .2) _ (p .3)
 
 y0-of-requires-2 : tie.Need-y0-of-requires-2
 y0-of-requires-2 c κs =
-    let p = c .before .before .before .before .pre in
-    (p .0, p .1, next-row (c .before))
+    let p = c .before .before .pre in
+    (p .0, p .1, next-there _ (p .0) _ (p .2) _ (p .3))
 
 step-of-requires : tie.Need-step-of-requires
 step-of-requires c κs = search needs
 
 above-requires : tie.Need-above-requires
 above-requires c κs =
-    let start = c .before .before .before .before .before .before in
+    let start = c .before .before .before .before in
     let p = start .pre in
     let y0 = c .before .before .y0-of in (
       bits-most (y0 .result) (y0 .ok) (le-trans (y0 .ensures .1) (lit≤ tt)),
@@ -71,33 +49,28 @@ above-requires c κs =
 
 above-requires-2 : tie.Need-above-requires-2
 above-requires-2 c κs =
-    let start = c .before .before .before .before .before .before .before in
+    let start = c .before .before .before .before .before in
     let p = start .pre in
     let y0 = c .before .before .before .y0-of in
     let next = c .before .before .y0-of2 in (
       bits-most (y0 .result) (y0 .ok) (le-trans (y0 .ensures .1) (lit≤ tt)),
       bits-most (next .result) (next .ok) (le-trans (next .ensures .1) (lit≤ tt)),
-      above-next _ (p .0) _ (p .2) _ (p .3) _ _ _ (bits-is (y0 .ok)) (y0 .ensures .0) (reduced-is start) _ _ (bits-is (next .ok)) (next .ensures .0) (next-row (c .before .before .before .before)),
+      above-next _ (p .0) _ (p .2) _ (p .3) _ _ _ (bits-is (y0 .ok)) (y0 .ensures .0) (reduced-is start) _ _ (bits-is (next .ok)) (next .ensures .0),
     )
 
 seconds-requires : tie.Need-seconds-requires
 seconds-requires c κs =
-    let start = c .before .before .before .before .before .before .before .before in
+    let start = c .before .before .before .before .before .before in
     let p = start .pre in
     let y0 = c .before .before .before .before .y0-of in
     let next = c .before .before .before .y0-of2 in
-    let there = next-row (c .before .before .before .before .before) in (
-      rw (c .before .before .step-of .ensures) (lit≤ tt),
-      past-asks _ (p .0) _ (p .2) _ (p .3) _ _ _ (bits-is (y0 .ok)) (y0 .ensures .0) (reduced-is start) _ _ (bits-is (next .ok)) (next .ensures .0) there _ _ (c .before .above .ensures) (c .above2 .ensures),
-      gap-some _ (p .0) _ (p .2) _ (p .3) _ _ _ (bits-is (y0 .ok)) (y0 .ensures .0) (reduced-is start) _ _ (bits-is (next .ok)) (next .ensures .0) there _ _ (c .before .above .ensures) (c .above2 .ensures),
-      gap-asks _ (p .0) _ (p .2) _ (p .3) _ _ _ (bits-is (y0 .ok)) (y0 .ensures .0) (reduced-is start) _ _ (bits-is (next .ok)) (next .ensures .0) there _ _ (c .before .above .ensures) (c .above2 .ensures),
-    )
+    let asked = seconds-ask _ (p .0) _ (p .2) _ (p .3) _ _ _ (bits-is (y0 .ok)) (y0 .ensures .0) (reduced-is start) _ _ (bits-is (next .ok)) (next .ensures .0) _ _ (c .before .above .ensures) (c .above2 .ensures) in
+    (rw (c .before .before .step-of .ensures) (lit≤ tt), asked .0, asked .1, asked .2)
 
 pub seconds-past-spec : {M : Type 1} → statement M
 seconds-past-spec =
     tie.close
     (tie.spec
-    add-if1
     y0-of-requires
     add-y0-of
     y0-of-requires-2
@@ -105,5 +78,4 @@ seconds-past-spec =
     above-requires
     above-requires-2
     seconds-requires
-    returns
-    returns-2)
+    returns)
