@@ -147,38 +147,18 @@ static const uint8_t *body(const uint8_t *s, const places *p, size_t kind) { ret
 // How far from row 0 the last row lies.
 static int64_t reach(const places *p, size_t kind, int64_t step) { return (p->rows[kind] - 1) * step; }
 
-#ifndef WAY
-#define WAY 1
-#endif
-#if WAY == 1
-// n/d to the nearest, for n not below 0. *half becomes true where the exact value is a half.
+// n/d to the nearest, for n not below 0; *half becomes true where n/d is a half. Then d is even and n + d/2 a multiple of it, so that no second division is worked.
 static int64_t rounded_size(uint64_t n, uint64_t d, bool *half) {
     uint64_t t = n + d / 2, q = t / d;
     *half |= q * d == t && d % 2 == 0;
     return q;
 }
-#elif WAY == 2
-static int64_t rounded_size(uint64_t n, uint64_t d, bool *half) {
-    uint64_t q = n / d, twice = 2 * (n - q * d);
-    *half |= twice == d;
-    return q + (twice >= d);
-}
-#else
-static int64_t rounded_size(uint64_t n, uint64_t d, bool *half) {
-    *half |= 2 * (n % d) == d;
-    return (n + d / 2) / d;
-}
-#endif
 
 // The same for any n, a half away from zero.
-#if WAY == 3
-static int64_t rounded(int64_t n, int64_t d, bool *half) { int64_t r = n % d; *half |= 2 * (r < 0 ? -r : r) == d; return (n + (n < 0 ? -d / 2 : d / 2)) / d; }
-#else
 static int64_t rounded(int64_t n, int64_t d, bool *half) {
     int64_t size = rounded_size(n < 0 ? -n : n, d, half);
     return n < 0 ? -size : size;
 }
-#endif
 
 // Two rows next to each other, and how far beyond the first an offset lies. The last row is the second of its two, a whole step beyond the first.
 typedef struct {
