@@ -9,11 +9,11 @@ use native.Mathlib.Omega.{arith}
 use lib.Dec.{lit<}
 use lib.IntN.{ℤ, pos, natAbs, _-ℤ_, +ℤ-invr}
 use lib.Signed.{leZ}
-use Rattle.figures.specs.Nearest.{nearestSize, onHalfSize, onHalf}
+use Rattle.figures.specs.Nearest.{nearestSize, onHalfSize}
 use Rattle.steps.specs.Steps.{seconds, secondsHalf}
 use Rattle.figures.proofs.Order.{leZ-equal}
 use Rattle.figures.proofs.Rounding.{nearestSize-most}
-use Rattle.figures.proofs.Halves.{whole-no-half}
+use Rattle.figures.proofs.Halves.{multiple-no-half}
 use Rattle.words.specs.Ladder.{need, whereBelow}
 use Rattle.words.proofs.Refusals.{where-below, where-beyond}
 use Rattle.entries.specs.Layout.{latitude, stepOf}
@@ -34,10 +34,9 @@ use Rattle.corrected.proofs.Beside.{Beside, Outside, latitude-rows, cen
 
 -- 0 is no half
 no-half-zero : (n d : ℕ) → n ≡ 0 → 0 < d → onHalfSize n d ≡ false
-unfolding onHalf
 no-half-zero n d e h =
     let same : n ≡ 0 * d = omega arith in
-    ap (λ (m : ℕ). onHalfSize m d) same ∙ whole-no-half (pos 0) d h
+    ap (λ (m : ℕ). onHalfSize m d) same ∙ multiple-no-half 0 d h
 
 -- a refusal that comes first in both, or what comes after it in both
 pub same-rung : {A : Type 0} (p : Bool) (x a b : A) → (p ≡ true → a ≡ b) → need p x a ≡ need p x b

@@ -34,7 +34,7 @@ unfoldable pub answerOf : ℕ → ℤ → ℤ → Bool → Answer
 answerOf number a b half = need (eqb number 0) (Refused number) (Counts (float a) (float b) half)
 
 -- "Where an answer is an enum, a definition gives this paper's number and values for each of its cases": counts are "0 accepted", and "A refused conversion carries zeros."
--- The mark of each case comes last.
+-- `halfOf` gives the mark of each case.
 abbrev pub numberOf : Answer → ℕ
 numberOf (Counts a b half) = 0
 numberOf (Refused n) = n

@@ -14,7 +14,7 @@ use Rattle.tables.specs.Figures.{centralMeridian, falseEasting, firstLatitude, 
 unfoldable pub fromFirst : List ℕ → ℤ → ℤ
 fromFirst s north = north -ℤ firstLatitude s
 
--- For 10, "latitude below the first or above the last row". The last row stands as many minutes after the first as rows follow it.
+-- For 10, "latitude below the first or above the last row". With n rows the last stands n − 1 minutes after the first.
 unfoldable pub latitudeKnown : List ℕ → ℤ → Bool
 latitudeKnown s north = withinRows (rowsOf s latitude) (stepOf latitude) (fromFirst s north)
 

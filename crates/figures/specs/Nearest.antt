@@ -17,8 +17,8 @@ nearestSize n d = (2 * n + d) / (2 * d)
 unfoldable pub nearest : ℤ → ℕ → ℤ
 nearest n d = withSign n (pos (nearestSize (natAbs n) d))
 
--- "whether their exact value was a half", of n/d where n is a size: twice what is left of n, beside whole d's, is d. `promises` has the theorem that this is
--- so exactly where 2n/d is a whole odd number.
+-- "whether their exact value was a half", of n/d where n is a size and d is above 0: twice the rest of the division is d. `promises` has the theorem that this
+-- is so exactly where 2n/d is a whole odd number.
 unfoldable pub onHalfSize : ℕ → ℕ → Bool
 onHalfSize n d = eqb (2 * (n % d)) d
 

@@ -1,4 +1,4 @@
--- "Plane to geographic." x and y in 0.01 ft, latitude and longitude in 0.001″. s is the sheet, xp is x′, and x, where a step takes it, the size of x′.
+-- "Plane to geographic." x and y in 0.01 ft, latitude and longitude in 0.001″. s is the sheet and xp is x′. x is the size of x′ in every step, and the point's own x in `inverseOf`.
 use mathlib.Core.Bool.{Bool, false, _||_}
 use mathlib.Core.List.{List}
 use Prim.Native.Nat.{ℕ, _+_, _*_}
@@ -73,7 +73,7 @@ longitudeOf s xp t = centralMeridian s -ℤ withSign xp (sizeOf s (natAbs xp) t)
 unfoldable pub geographicAt : List ℕ → ℤ → ℕ → Bool → Geographic
 geographicAt s xp t met = geographic 0 (firstLatitude s +ℤ pos t) (longitudeOf s xp t) (met || sizeHalf s (natAbs xp) t)
 
--- "inverse 12, 13, 14, 11", on a sheet that passes, in three parts of which each goes on to the one above it. From the latitude on: 11, where "the size of L (.. approximate or
+-- "inverse 12, 13, 14, 11", on a sheet that passes, in three parts, the last of them first: each goes on to the part before it here. From the latitude on: 11, where "the size of L (.. approximate or
 -- final)" is "above the last kind 3 row".
 unfoldable pub fromDistance : List ℕ → ℤ → ℕ → Bool → Geographic
 fromDistance s xp t met =

@@ -2,12 +2,12 @@
 use mathlib.Core.Path.{_≡_, sym, ap, _∙_}
 use mathlib.Core.Bool.{Bool, true, false}
 use Prim.Native.Nat.{ℕ, suc, _+_, _*_, _-_, _/_, _%_, _<_}
-use native.Mathlib.Nat.{add-mul, mul-left-comm, div-add-mod', mod-lt}
+use native.Mathlib.Nat.{add-mul, div-add-mod'}
 use native.Mathlib.Omega.{arith}
 use borrow.Author.Tests.{eq-eqb, eqb-true}
 use lib.Arith.{digits-mod}
-use lib.Dec.{lit<, eqb}
-use lib.IntN.{ℤ, pos, negsuc, negℤ, natAbs, _*ℤ_}
+use lib.Dec.{lit<}
+use lib.IntN.{ℤ, pos, negsuc, negℤ, natAbs}
 use Rattle.figures.specs.Nearest.{onHalfSize, onHalf}
 use Rattle.figures.specs.Between.{exactBetween, betweenHalf}
 use Rattle.figures.proofs.Ring.{minus-times}

@@ -13,6 +13,7 @@ use Rattle.compared.specs.Compared.{changes}
 use Rattle.promises.specs.Corrections.{Passes}
 
 -- After a correction that was accepted, on a sheet that passes, every line whose answer changes counts among those that are reached, by the rows in which the sheets differ. To redo the reached ones is to miss none.
+-- A line's answer is a number and two values, so that a mark alone is no change.
 abbrev pub NoneMissed : Type 0
 NoneMissed =
     (s : List ℕ) → Passes s → (minute : ℤ) (f : Figures) → correctionOf s minute f ≡ 0

@@ -29,7 +29,7 @@ valueAt f step offset = pastRow f (offset / step) (offset % step) step
 unfoldable pub valueHalf : (ℕ → ℤ) → ℕ → ℕ → Bool
 valueHalf f step offset = pastRowHalf f (offset / step) (offset % step) step
 
--- z, counted from row 0, lies from there to the last of so many rows, which stands a step past row 0 for each row after it. 10 and 13 refuse what is below or above, 11 and 12,
+-- z, counted from row 0, lies from there to the last row. With n rows the last stands n − 1 steps past row 0. 10 and 13 refuse what is below or above, 11 and 12,
 -- which look at sizes, what is above.
 unfoldable pub withinRows : ℕ → ℕ → ℤ → Bool
 withinRows rows step z = leZ (pos 0) z && leZ z (pos ((rows - 1) * step))

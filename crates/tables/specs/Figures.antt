@@ -16,7 +16,7 @@ figureOf s kind number i = column (bodyOf s kind) (widthOf kind) number i
 abbrev pub figureAt : List ℕ → ℕ → ℕ → ℕ → ℤ
 figureAt s kind number offset = valueAt (column (bodyOf s kind) (widthOf kind) number) (stepOf kind) offset
 
--- Whether it was rounded from a half. Each figure between rows has its own such name below.
+-- Whether it was rounded from a half. `y0Half`, `hHalf` and so on, below, say so of the figure above them.
 abbrev pub figureHalf : List ℕ → ℕ → ℕ → ℕ → Bool
 figureHalf s kind number offset = valueHalf (column (bodyOf s kind) (widthOf kind) number) (stepOf kind) offset
 

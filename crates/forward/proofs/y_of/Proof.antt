@@ -10,7 +10,7 @@ use Rattle.steps.proofs.StepBounds.{q-most}
 use Rattle.figures.proofs.Holds.{Holds, sum, sum-fits}
 use Rattle.tables.specs.Figures.{y0At, vAt, cAt}
 use Rattle.tables.proofs.Ranges.{c-between}
-use Rattle.forward.specs.Forward.{yOf, yHalf}
+use Rattle.forward.specs.Forward.{yOf}
 use Rattle.forward.proofs.Eastings.{rise-worked, y-marked, s-most, y-rise}
 use borrow.Author.Needs.{needs}
 use Rattle.forward.proofs.y_of.Statement.{statement}

@@ -7,8 +7,8 @@ use mir.Val.{toZ, ofZ}
 use Rattle.words.proofs.Refusals.{stop, go, kept}
 use Rattle.extent.specs.Extent.{xPrime, eastingKnown, northingKnown}
 use Rattle.extent.proofs.Reach.{easting-reach}
-use Rattle.inverse.specs.Inverse.{reducedNorthing, reducedHalf, fromReduced, inverseOf}
-use Rattle.figures.proofs.Bits.{bits-is, bits-below, both-same}
+use Rattle.inverse.specs.Inverse.{reducedNorthing, reducedHalf, inverseOf}
+use Rattle.figures.proofs.Bits.{bits-is, bits-below}
 use borrow.Author.Needs.{needs}
 use Rattle.inverse.proofs.inverse.Statement.{statement}
 use Rattle.inverse.proofs.inverse.Tie as tie

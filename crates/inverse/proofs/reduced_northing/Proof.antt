@@ -14,7 +14,6 @@ use Rattle.extent.proofs.Reach.{northing-reach, easting-span}
 use Rattle.extent.proofs.Points.{wide, wide-fits}
 use Rattle.inverse.specs.Inverse.{reducedNorthing}
 use Rattle.inverse.proofs.Longitudes.{reduction-worked, reduced-marked, reduction-small}
-use Rattle.figures.proofs.Bits.{bits-is, bits-most, bits-hold}
 use borrow.Author.Needs.{needs}
 use Rattle.inverse.proofs.reduced_northing.Statement.{statement}
 use Rattle.inverse.proofs.reduced_northing.Tie as tie
