@@ -9,7 +9,18 @@
 
 #include "plain.h"
 
+// An answer of over 16 bytes is written through a pointer. On x86-64 that is a first argument, in C too; on AArch64 C has a register of its own for it.
+#ifdef __aarch64__
+void bannerscale_check(verdict *answer, const uint8_t *sheet, size_t length);
+static verdict check_by_pointer(const uint8_t *sheet, size_t length) {
+    verdict v;
+    bannerscale_check(&v, sheet, length);
+    return v;
+}
+#define bannerscale_check check_by_pointer
+#else
 verdict bannerscale_check(const uint8_t *sheet, size_t length);
+#endif
 
 greatest bannerscale_forward(const uint8_t *sheet, size_t length, const int32_t *points, size_t numbers);
 greatest bannerscale_inverse(const uint8_t *sheet, size_t length, const int32_t *points, size_t numbers);

@@ -1,19 +1,22 @@
--- A rounding's mark is yes exactly where twice its exact value is a whole odd number: of every rounding that a conversion works. Assumes nothing.
+-- A rounding's mark is yes exactly where twice its exact value is a whole odd number: of every rounding that a conversion works. Where it is no, there is one nearest number.
+-- Assumes nothing.
 use mathlib.Core.Path.{_≡_, sym, ap, _∙_}
 use mathlib.Core.Bool.{Bool, true, false}
-use Prim.Native.Nat.{ℕ, suc, _+_, _*_, _-_, _/_, _%_, _<_}
-use native.Mathlib.Nat.{add-mul, div-add-mod'}
+use Prim.Native.Nat.{ℕ, zero, suc, _+_, _*_, _-_, _/_, _%_, _<_, _≤_}
+use native.Mathlib.Nat.{add-mul, suc-mul, div-add-mod'}
+use native.Mathlib.Decide.{decLe}
 use native.Mathlib.Omega.{arith}
 use borrow.Author.Tests.{eq-eqb, eqb-true}
 use lib.Arith.{digits-mod}
 use lib.Dec.{lit<}
-use lib.IntN.{ℤ, pos, negsuc, negℤ, natAbs}
-use Rattle.figures.specs.Nearest.{onHalfSize, onHalf}
+use lib.IntN.{ℤ, pos, negsuc, negℤ, natAbs, _-ℤ_, _*ℤ_}
+use Rattle.figures.specs.Nearest.{nearest, onHalfSize, onHalf}
 use Rattle.figures.specs.Between.{exactBetween, betweenHalf}
 use Rattle.figures.proofs.Ring.{minus-times}
 use Rattle.figures.proofs.Sizes.{size-minus, size-product}
 use Rattle.steps.specs.Steps.{exactQ, exactX, exactRise, exactReduction, exactSeconds, exactApproximate, exactL, exactConvergence, qHalf, sizeOfXHalf, riseHalf, reductionHalf, secondsHalf, approximateLHalf, sizeOfLHalf, convergenceHalf}
-use Rattle.promises.specs.Meaning.{Halfway, Marks}
+use Rattle.promises.specs.Meaning.{Halfway, AsNear, Marks}
+use Rattle.promises.proofs.NearestIsNearest.{apart, far, mirrored, only-the-nearest}
 
 -- ---- sizes: n = q·d + d/2, so that 2n = (2q + 1)·d
 twice-odd : (n d : ℕ) → 2 * (n % d) ≡ d → 2 * n ≡ (2 * (n / d) + 1) * d
@@ -61,6 +64,30 @@ half-is-half n d some = record { where-yes = met n d; where-no = λ e h. not-bot
 size-is-half : (n d : ℕ) → 0 < d → Marks (onHalfSize n d) (pos n) d
 unfolding onHalf
 size-is-half n d some = half-is-half (pos n) d some
+
+-- ---- a mark of no: whichever way halves are sent, the nearest is the same
+-- n lies d/2 below or above k·d, so that 2n = (2k − 1)·d or (2k + 1)·d
+beside : (n d : ℕ) (r : ℤ) → 0 < d → 2 * natAbs (r *ℤ pos d -ℤ pos n) ≡ d → 2 * (n % d) ≡ d
+beside n d (pos zero) some e = half-rest n d 1 some (omega (arith, e, apart (0 * d) n)) (odd-rest 0)
+beside n d (pos (suc j)) some e = pick (decLe (suc j * d) n)
+  where
+    up : suc j * d ≡ j * d + d
+    up = suc-mul j d
+
+    pick : Dec (suc j * d ≤ n) → 2 * (n % d) ≡ d
+    pick (yes l) = half-rest n d (2 * (suc j) + 1) some (omega (arith, e, apart (suc j * d) n, add-mul (2 * suc j) 1 d)) (odd-rest (suc j))
+    pick (no l) = half-rest n d (2 * j + 1) some (omega (arith, e, up, apart (suc j * d) n, add-mul (2 * j) 1 d)) (odd-rest j)
+beside n d (negsuc k) some e = absurd (omega (arith, e, far (suc k * d) n, suc-mul k d))
+
+halfway-off : (n : ℤ) (d : ℕ) (r : ℤ) → 0 < d → 2 * natAbs (r *ℤ pos d -ℤ n) ≡ d → onHalf n d ≡ true
+unfolding onHalf onHalfSize
+halfway-off (pos n) d r some e = eq-eqb (2 * (n % d)) d (beside n d r some e)
+halfway-off (negsuc n) d r some e =
+    eq-eqb (2 * (suc n % d)) d (beside (suc n) d (negℤ r) some (ap (λ (m : ℕ). 2 * m) (mirrored (negsuc n) r d) ∙ e))
+
+pub one-nearest : (n : ℤ) (d : ℕ) (r : ℤ) → 0 < d → onHalf n d ≡ false → AsNear n d r → r ≡ nearest n d
+one-nearest n d r some none near =
+    only-the-nearest n d r some (record { near = near; half = λ e. absurd (not-both (onHalf n d) (halfway-off n d r some e) none) })
 
 -- ---- each rounding of a conversion, by its exact value
 pub between-marks : (u w : ℤ) (t step : ℕ) → 0 < step → Marks (betweenHalf u w t step) (exactBetween u w t step) step

@@ -12,22 +12,26 @@ use Rattle.figures.proofs.Rounding.{is-nearest, only-nearest}
 use Rattle.promises.specs.Meaning.{Nearest}
 
 -- ---- how far two numbers lie apart
-apart : (a b : ℕ) → natAbs (pos a -ℤ pos b) ≡ (a - b) + (b - a)
+pub apart : (a b : ℕ) → natAbs (pos a -ℤ pos b) ≡ (a - b) + (b - a)
 apart a b = ap natAbs (pos-minus a b) ∙ by-order (decLe b a)
   where
     by-order : Dec (b ≤ a) → natAbs (subℕ a b) ≡ (a - b) + (b - a)
     by-order (yes h) = ap natAbs (subℕ-le h) ∙ omega arith
     by-order (no h) = ap natAbs (subℕ-lt {a = a} {b = b} (omega arith)) ∙ omega arith
 
-far : (a b : ℕ) → natAbs (negℤ (pos a) -ℤ pos b) ≡ a + b
+pub far : (a b : ℕ) → natAbs (negℤ (pos a) -ℤ pos b) ≡ a + b
 far a b = ap natAbs (sym (negℤ-+ℤ (pos a) (pos b))) ∙ size-minus (pos (a + b))
 
 -- ---- both signs alike
-mirror : {n r : ℤ} {d : ℕ} → Nearest n d r → Nearest (negℤ n) d (negℤ r)
-mirror {n} {r} {d} h =
+pub mirrored : (n r : ℤ) (d : ℕ) → natAbs (negℤ r *ℤ pos d -ℤ negℤ n) ≡ natAbs (r *ℤ pos d -ℤ n)
+mirrored n r d =
     let turned : negℤ r *ℤ pos d -ℤ negℤ n ≡ negℤ (r *ℤ pos d -ℤ n)
     = ap (λ (z : ℤ). z -ℤ negℤ n) (minus-times r (pos d)) ∙ sym (negℤ-+ℤ (r *ℤ pos d) (negℤ n)) in
-    let e : natAbs (negℤ r *ℤ pos d -ℤ negℤ n) ≡ natAbs (r *ℤ pos d -ℤ n) = ap natAbs turned ∙ size-minus (r *ℤ pos d -ℤ n) in
+    ap natAbs turned ∙ size-minus (r *ℤ pos d -ℤ n)
+
+mirror : {n r : ℤ} {d : ℕ} → Nearest n d r → Nearest (negℤ n) d (negℤ r)
+mirror {n} {r} {d} h =
+    let e = mirrored n r d in
     record {
       near = rw e (h .near);
       half = λ q. rw (size-minus n, size-minus r) (h .half (ap (λ (x : ℕ). 2 * x) (sym e) ∙ q));

@@ -15,6 +15,10 @@ pub record Halfway (n : ℤ) (d : ℕ) : Type 0 where
   pub whole : pos 2 *ℤ n ≡ twice *ℤ pos d
   pub odd : natAbs twice % 2 ≡ 1
 
+-- r is a whole number nearest to n/d, whichever way a half is sent: r·d lies within half of d of n. There are two such numbers where n/d is a half, and else one.
+abbrev pub AsNear : ℤ → ℕ → ℤ → Type 0
+AsNear n d r = 2 * natAbs (r *ℤ pos d -ℤ n) ≤ d
+
 -- A rounding's mark says "whether" its "exact value was a half": yes exactly where n/d, the exact value, is one.
 pub record Marks (mark : Bool) (n : ℤ) (d : ℕ) : Type 0 where
   pub where-yes : mark ≡ true → Halfway n d
