@@ -55,7 +55,7 @@ const LOW: u64 = 16_384;
 const HIGH: u64 = 61_035_156_250;
 
 // The reduction of y, in 0.01 ft: P(x′/10,000)² + d, for x the size of x′. P·x² passes 64 bits, so x² is split at LOW:
-// P·x² + d·10¹⁵ is t·LOW + rest. It is a half where t is one of HIGH and nothing was dropped.
+// P·x² + d·10¹⁵ is t·LOW + rest. The exact value is a half if t/HIGH is one and the rest, which is dropped, is 0.
 pub fn reduction(p: u64, x: u64, d: i64) -> Rounded
     requires { ⌜ (p ≤ mostP) × (x ≤ mostX) × (natAbs d ≤ mostD) ⌝ }
     ensures { λ r. ⌜ (r .value ≡ reduction p x d) × (r .half ≡ reductionHalf p x d) ⌝ }
