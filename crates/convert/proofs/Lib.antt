@@ -1,2 +1,3 @@
 -- Laws of the conversions after the check. Other crates cite them.
 pub mod Checked
+pub mod Zeros

@@ -85,7 +85,7 @@ module _ (t step : ℕ) (inside : t ≤ step) where
     sizes-least u w lo p q = nearestSize-least (u * (step - t) + w * t) step lo positive (weight-least u w lo p q)
 
 -- a whole step past a row is the next row
-exact-next : (u w : ℤ) (step : ℕ) → exactBetween u w step step ≡ w *ℤ pos step
+pub exact-next : (u w : ℤ) (step : ℕ) → exactBetween u w step step ≡ w *ℤ pos step
 exact-next u w step =
     let none : step - step ≡ 0 = omega arith in
     weighed step step (le-refl step) u w

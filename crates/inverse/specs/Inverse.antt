@@ -32,24 +32,27 @@ reducedHalf s x y = pHalf s (natAbs y) || dHalf s x || reductionHalf (pAt s (nat
 unfoldable pub rowOf : List ℕ → ℤ → ℕ
 rowOf s reduced = lastNotAbove (y0Of s) (rowsOf s latitude) reduced
 
+-- "reduced − y0" and "y0 next − y0", of a row.
+abbrev pub pastOf : List ℕ → ℤ → ℕ → ℕ
+pastOf s reduced row = natAbs (reduced -ℤ y0Of s row)
+
+abbrev pub gapOf : List ℕ → ℕ → ℕ
+gapOf s row = natAbs (y0Of s (row + 1) -ℤ y0Of s row)
+
 -- "seconds = 60(reduced − y0)/(y0 next − y0), to 0.001, and 0 at the last row."
 unfoldable pub secondsPast : List ℕ → ℤ → ℕ → ℕ
-secondsPast s reduced row =
-    whereBelow (row + 1) (rowsOf s latitude)
-    (seconds (stepOf latitude) (natAbs (reduced -ℤ y0Of s row)) (natAbs (y0Of s (row + 1) -ℤ y0Of s row)))
-    0
+secondsPast s reduced row = whereBelow (row + 1) (rowsOf s latitude) (seconds (stepOf latitude) (pastOf s reduced row) (gapOf s row)) 0
 
+-- Whether they met a half: no at the last row.
 unfoldable pub secondsPastHalf : List ℕ → ℤ → ℕ → Bool
-secondsPastHalf s reduced row =
-    whereBelow (row + 1) (rowsOf s latitude)
-    (secondsHalf (stepOf latitude) (natAbs (reduced -ℤ y0Of s row)) (natAbs (y0Of s (row + 1) -ℤ y0Of s row)))
-    false
+secondsPastHalf s reduced row = whereBelow (row + 1) (rowsOf s latitude) (secondsHalf (stepOf latitude) (pastOf s reduced row) (gapOf s row)) false
 
 -- The latitude's distance from row 0: the row's, and the seconds. "If that comes to 60.000 the latitude is the next minute": 60.000 past a row is the next row
 -- itself, at which nothing is left to read between rows.
 unfoldable pub distanceOf : List ℕ → ℤ → ℕ
 distanceOf s reduced = rowOf s reduced * stepOf latitude + secondsPast s reduced (rowOf s reduced)
 
+-- Whether it met a half: of the two, the seconds alone are rounded.
 unfoldable pub distanceHalf : List ℕ → ℤ → Bool
 distanceHalf s reduced = secondsPastHalf s reduced (rowOf s reduced)
 

@@ -3,7 +3,7 @@ use mathlib.Core.List.{List}
 use Prim.Native.Nat.{ℕ}
 use lib.IntN.{ℤ}
 use Rattle.convert.specs.Conversions.{geographicToPlane, planeToGeographic, convergenceAndScale}
-use Rattle.door.proofs.Told.{plane-zeros, geographic-zeros, grid-zeros}
+use Rattle.convert.proofs.Zeros.{plane-zeros, geographic-zeros, grid-zeros}
 use Rattle.promises.specs.Conversions.{ZerosRefused}
 
 module _ (s : List ℕ) where

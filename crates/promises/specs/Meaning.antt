@@ -9,7 +9,7 @@ pub record Nearest (n : ℤ) (d : ℕ) (r : ℤ) : Type 0 where
   pub near : 2 * natAbs (r *ℤ pos d -ℤ n) ≤ d
   pub half : 2 * natAbs (r *ℤ pos d -ℤ n) ≡ d → natAbs n ≤ natAbs r * d
 
--- n/d is a half: twice it is a whole number, and odd. For d above 0: 2n/d is that number.
+-- n/d is a half: twice n/d is a whole number, and odd. For d above 0, `twice` is that number.
 pub record Halfway (n : ℤ) (d : ℕ) : Type 0 where
   pub twice : ℤ
   pub whole : pos 2 *ℤ n ≡ twice *ℤ pos d

@@ -8,10 +8,7 @@ use Rattle.figures.specs.Nearest.{nearest, onHalf}
 use Rattle.figures.specs.Between.{exactBetween, between, betweenHalf}
 use Rattle.figures.proofs.Interval.{exact-row}
 use Rattle.reading.specs.Tables.{pastRow, pastRowHalf, valueAt, valueHalf}
-
--- what is rounded at an offset: the value and its half are worked from it
-abbrev exactAt : (ℕ → ℤ) → ℕ → ℕ → ℤ
-exactAt f step offset = exactBetween (f (offset / step)) (f (offset / step + 1)) (offset % step) step
+use Rattle.reading.proofs.Pairs.{exactAt}
 
 value-of : (f g : ℕ → ℤ) (step offset : ℕ) → exactAt f step offset ≡ exactAt g step offset → valueAt f step offset ≡ valueAt g step offset
 unfolding valueAt pastRow between

@@ -11,8 +11,9 @@ use lib.Arith.{digits-div, digits-mod}
 use lib.IntN.{ℤ, pos}
 use lib.ListN.{length}
 use lib.Signed.{leZ}
-use Rattle.figures.specs.Between.{between, betweenHalf}
-use Rattle.figures.proofs.Interval.{at-row, at-next, no-half-at-row, no-half-at-next}
+use Rattle.figures.specs.Nearest.{nearest, onHalf}
+use Rattle.figures.specs.Between.{exactBetween, between, betweenHalf}
+use Rattle.figures.proofs.Interval.{exact-row, exact-next}
 use Rattle.words.specs.Words.{wordAt}
 use Rattle.reading.specs.Tables.{column, pastRow, pastRowHalf, valueAt, valueHalf}
 use Rattle.reading.specs.Tables.{NotNegative}
@@ -22,34 +23,33 @@ use Rattle.reading.proofs.Within.{next-within}
 pub next-word : (b : List ℕ) (w c i : ℕ) → wordAt b (w * i + c + w) ≡ column b w c (i + 1)
 next-word b w c i = ap (wordAt b) (omega (arith, mul-add w i 1, mul-one w))
 
+-- what is rounded at an offset: the value and its mark are worked from it
+abbrev pub exactAt : (ℕ → ℤ) → ℕ → ℕ → ℤ
+exactAt f step offset = exactBetween (f (offset / step)) (f (offset / step + 1)) (offset % step) step
+
 -- ---- so much past row i, up to a step: a whole step past it is the next row
 module _ (f : ℕ → ℤ) (i past step : ℕ) (p : 0 < step) (most : past ≤ step) where
   next-row : step ≤ past → i * step + past ≡ (i + 1) * step + 0
   next-row whole = omega (arith, add-mul i 1 step)
 
-  pub past-value : pastRow f i past step ≡ valueAt f step (i * step + past)
-  unfolding valueAt pastRow
-  past-value = pick (decLt past step)
+  exact-past : exactBetween (f i) (f (i + 1)) past step ≡ exactAt f step (i * step + past)
+  exact-past = pick (decLt past step)
     where
       pick : Dec (past < step)
-          → between (f i) (f (i + 1)) past step ≡ between (f ((i * step + past) / step)) (f ((i * step + past) / step + 1)) ((i * step + past) % step) step
+          → exactBetween (f i) (f (i + 1)) past step ≡ exactBetween (f ((i * step + past) / step)) (f ((i * step + past) / step + 1)) ((i * step + past) % step) step
       pick (yes d) = rw (digits-div i d, digits-mod i d)
       pick (no d) =
           let whole : past ≡ step = omega arith in
           rw (next-row (omega arith), digits-div (i + 1) p, digits-mod (i + 1) p, whole)
-          (at-next (f i) (f (i + 1)) step p ∙ sym (at-row (f (i + 1)) (f (i + 1 + 1)) step p))
+          (exact-next (f i) (f (i + 1)) step ∙ sym (exact-row (f (i + 1)) (f (i + 1 + 1)) step))
+
+  pub past-value : pastRow f i past step ≡ valueAt f step (i * step + past)
+  unfolding valueAt pastRow between
+  past-value = ap (λ (z : ℤ). nearest z step) exact-past
 
   pub past-half : pastRowHalf f i past step ≡ valueHalf f step (i * step + past)
-  unfolding valueHalf pastRowHalf
-  past-half = pick (decLt past step)
-    where
-      pick : Dec (past < step)
-          → betweenHalf (f i) (f (i + 1)) past step ≡ betweenHalf (f ((i * step + past) / step)) (f ((i * step + past) / step + 1)) ((i * step + past) % step) step
-      pick (yes d) = rw (digits-div i d, digits-mod i d)
-      pick (no d) =
-          let whole : past ≡ step = omega arith in
-          rw (next-row (omega arith), digits-div (i + 1) p, digits-mod (i + 1) p, whole)
-          (no-half-at-next (f i) (f (i + 1)) step p ∙ sym (no-half-at-row (f (i + 1)) (f (i + 1 + 1)) step p))
+  unfolding valueHalf pastRowHalf betweenHalf
+  past-half = ap (λ (z : ℤ). onHalf z step) exact-past
 
 -- ---- the pair of an offset
 module _ (n step offset i : ℕ) (two : 2 ≤ n) (p : 0 < step) (h : offset ≤ (n - 1) * step) (e : i ≡ min (offset / step) (n - 2)) where
