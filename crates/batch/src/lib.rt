@@ -8,8 +8,7 @@ ghost use Prim.Native.Nat.{_+_, _*_, _≤_, _<_};
 ghost use lib.IntN.{pos};
 ghost use lib.ListN.{length};
 ghost use lib.Seq.{sets};
-ghost use Rattle.entries.specs.Entries.{placesOf};
-ghost use Rattle.bodies.specs.Check.{checkOf};
+ghost use Rattle.bodies.specs.Check.{KnownToPass};
 ghost use Rattle.batch.specs.Batch.{oneIfAnswered, pointAt, wordsOf, pairs, answered, afterPairs, taken, batchOf, answersOf};
 
 // A batch's answer: its number, and the count of its points with number 0.
@@ -46,7 +45,7 @@ fn put(answers: &mut [i32], at: usize, number: u32, x: i32, y: i32) -> u32
 
 // Point i, answered at its place; 1 where its number is 0, else 0.
 fn answer_one(s: &[u8], p: Places, points: &[i32], answers: &mut [i32], i: usize) -> u32
-    requires { ⌜ (checkOf (now s) .number ≡ 0) × (p ≡ placesOf (now s)) × (2 * i + 1 < length (now points)) × (3 * i + 3 ≤ length (now answers)) ⌝ }
+    requires { ⌜ KnownToPass (now s) p × (2 * i + 1 < length (now points)) × (3 * i + 3 ≤ length (now answers)) ⌝ }
     ensures { λ n. ⌜ (n ≡ oneIfAnswered (pointAt (now (s .entry)) (now (points .entry)) i .number)) × (n ≤ 1) × (now (answers .exit) ≡ sets (now (answers .entry)) (3 * i) (wordsOf (pointAt (now (s .entry)) (now (points .entry)) i))) ⌝ }
 {
     let r = forward::forward(s, p, points[2 * i], points[2 * i + 1]);
@@ -55,7 +54,7 @@ fn answer_one(s: &[u8], p: Places, points: &[i32], answers: &mut [i32], i: usize
 
 // Every point, answered in turn; how many have number 0.
 fn answer_all(s: &[u8], p: Places, points: &[i32], answers: &mut [i32]) -> u32
-    requires { ⌜ (checkOf (now s) .number ≡ 0) × (p ≡ placesOf (now s)) × (taken (length (now points)) (length (now answers)) ≡ true) ⌝ }
+    requires { ⌜ KnownToPass (now s) p × (taken (length (now points)) (length (now answers)) ≡ true) ⌝ }
     ensures count { λ n. ⌜ n ≡ answered (now (s .entry)) (now (points .entry)) (pairs (now (points .entry))) ⌝ }
     ensures memory { λ _. ⌜ now (answers .exit) ≡ afterPairs (now (s .entry)) (now (points .entry)) (pairs (now (points .entry))) (now (answers .entry)) ⌝ }
 {

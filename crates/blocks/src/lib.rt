@@ -4,8 +4,7 @@ ghost use mathlib.Core.Path.{_≡_};
 ghost use Prim.Native.Nat.{_+_, _*_, _≤_};
 ghost use lib.ListN.{length, take};
 ghost use lib.Seq.{slice};
-ghost use Rattle.entries.specs.Entries.{placesOf};
-ghost use Rattle.bodies.specs.Check.{checkOf};
+ghost use Rattle.bodies.specs.Check.{KnownToPass};
 ghost use Rattle.decimal.specs.Writing.{Wrote};
 ghost use Rattle.lines.specs.Lines.{lineRoom};
 ghost use Rattle.stream.specs.Stream.{lastLine, endedLines, unended};
@@ -26,7 +25,7 @@ struct Lines {
 // Answers the buffer's lines from `from` to `to` that have ended; where the last one begins, which has not, and how many bytes of answers there are. A line takes a byte or more, its line feed, so
 // that an output with room for an answer to each byte has room for all.
 fn answer_lines(s: &[u8], p: Places, buffer: &[u8], from: usize, to: usize, out: &mut [u8]) -> Lines
-    requires { ⌜ (checkOf (now s) .number ≡ 0) × (p ≡ placesOf (now s)) × (from ≤ to) × (to ≤ length (now buffer)) × (lineRoom * to ≤ length (now out)) ⌝ }
+    requires { ⌜ KnownToPass (now s) p × (from ≤ to) × (to ≤ length (now buffer)) × (lineRoom * to ≤ length (now out)) ⌝ }
     ensures { λ r. ⌜ (r .rest ≤ to) × (r .at ≤ length (now (out .entry))) × (slice (r .rest) to (now (buffer .entry)) ≡ unended (slice from to (now (buffer .entry)))) × Wrote (now (out .entry)) (now (out .exit)) 0 (r .at) (answersOf (now (s .entry)) (endedLines (slice from to (now (buffer .entry))))) ⌝ }
 {
     let mut i = from;
@@ -49,7 +48,7 @@ pub fn answer_block(
     to: usize,
     out: &mut [u8],
 ) -> Done
-    requires { ⌜ (checkOf (now s) .number ≡ 0) × (p ≡ placesOf (now s)) × (from ≤ to) × (to ≤ length (now buffer)) × (lineRoom * to ≤ length (now out)) ⌝ }
+    requires { ⌜ KnownToPass (now s) p × (from ≤ to) × (to ≤ length (now buffer)) × (lineRoom * to ≤ length (now out)) ⌝ }
     ensures { λ r. ⌜ Answered (now (s .entry)) (now (buffer .entry)) (now (buffer .exit)) from to (now (out .entry)) (now (out .exit)) r ⌝ }
 {
     let d = answer_lines(s, p, buffer, from, to, out);
@@ -60,7 +59,7 @@ pub fn answer_block(
 
 // At the input's end: answers the line that has not ended, the buffer's first n bytes, where there is one; how many bytes of answers there are.
 pub fn answer_last(s: &[u8], p: Places, buffer: &[u8], n: usize, out: &mut [u8]) -> usize
-    requires { ⌜ (checkOf (now s) .number ≡ 0) × (p ≡ placesOf (now s)) × (n ≤ length (now buffer)) × (lineRoom ≤ length (now out)) ⌝ }
+    requires { ⌜ KnownToPass (now s) p × (n ≤ length (now buffer)) × (lineRoom ≤ length (now out)) ⌝ }
     ensures { λ r. ⌜ (r ≤ length (now (out .entry))) × Wrote (now (out .entry)) (now (out .exit)) 0 r (answersOf (now (s .entry)) (lastLine (take n (now (buffer .entry))))) ⌝ }
 {
     if n == 0 {

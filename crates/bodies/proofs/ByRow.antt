@@ -2,6 +2,7 @@
 use mathlib.Core.Path.{_≡_}
 use mathlib.Core.List.{List}
 use Prim.Native.Nat.{ℕ}
+use Rattle.entries.specs.Layout.{zone, latitude, longitude, northing, easting, scale}
 use Rattle.words.specs.declared.Fault.{Fault}
 use Rattle.words.specs.Ladder.{whereIs}
 use Rattle.words.specs.Faults.{firstFault}
@@ -11,26 +12,26 @@ use Rattle.bodies.specs.Check.{rowFault}
 
 module _ (kind : ℕ) (b : List ℕ) (n : ℕ) where
   module _ (i x : ℕ) where
-    pub of-zone : kind ≡ 1 → x ≡ zoneFault b i → x ≡ rowFault kind b n i
+    pub of-zone : kind ≡ zone → x ≡ zoneFault b i → x ≡ rowFault kind b n i
     unfolding rowFault whereIs
     of-zone e q = rw e q
 
-    pub of-longitude : kind ≡ 3 → x ≡ longitudeFault b n i → x ≡ rowFault kind b n i
+    pub of-longitude : kind ≡ longitude → x ≡ longitudeFault b n i → x ≡ rowFault kind b n i
     unfolding rowFault whereIs
     of-longitude e q = rw e q
 
-    pub of-northing : kind ≡ 4 → x ≡ northingFault b i → x ≡ rowFault kind b n i
+    pub of-northing : kind ≡ northing → x ≡ northingFault b i → x ≡ rowFault kind b n i
     unfolding rowFault whereIs
     of-northing e q = rw e q
 
-    pub of-easting : kind ≡ 5 → x ≡ eastingFault b i → x ≡ rowFault kind b n i
+    pub of-easting : kind ≡ easting → x ≡ eastingFault b i → x ≡ rowFault kind b n i
     unfolding rowFault whereIs
     of-easting e q = rw e q
 
-    pub of-scale : kind ≡ 6 → x ≡ scaleFault b i → x ≡ rowFault kind b n i
+    pub of-scale : kind ≡ scale → x ≡ scaleFault b i → x ≡ rowFault kind b n i
     unfolding rowFault whereIs
     of-scale e q = rw e q
 
-  pub of-latitude : (r : Fault) → kind ≡ 2 → r ≡ firstFault (latitudeFault b n) n 0 → r ≡ firstFault (rowFault kind b n) n 0
+  pub of-latitude : (r : Fault) → kind ≡ latitude → r ≡ firstFault (latitudeFault b n) n 0 → r ≡ firstFault (rowFault kind b n) n 0
   unfolding rowFault whereIs
   of-latitude r e q = rw e q

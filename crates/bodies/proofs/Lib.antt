@@ -3,3 +3,4 @@ pub mod ByRow
 pub mod Parts
 pub mod ByKind
 pub mod Sound
+pub mod Known

@@ -42,10 +42,10 @@ module _ (s : List ℕ) where
   pub passes-sound : checkOf s .number ≡ 0 → Sound s
   unfolding checkOf
   passes-sound e =
-      let both = each-passes numberOf (contentsOf s) (bodiesOf s lastKind 1) e in
+      let both = each-passes numberOf (contentsOf s) (bodiesOf s lastKind zone) e in
       record { contents = contents-pass s (both .0); rows = λ kind i l h r. row kind i l r (at-kind kind l h (both .1)) }
     where
-      at-kind : (kind : ℕ) → 1 ≤ kind → kind ≤ lastKind → bodiesOf s lastKind 1 .number ≡ 0 → faultOf s kind .number ≡ 0
+      at-kind : (kind : ℕ) → 1 ≤ kind → kind ≤ lastKind → bodiesOf s lastKind zone .number ≡ 0 → faultOf s kind .number ≡ 0
       at-kind kind l h z = let back : 1 + (kind - 1) ≡ kind = omega arith in rw back at (kinds-pass s lastKind 1 z (kind - 1) (omega arith))
 
       row : (kind i : ℕ) → 1 ≤ kind → i < rowsOf s kind → faultOf s kind .number ≡ 0 → rowFault kind (bodyOf s kind) (rowsOf s kind) i ≡ 0
@@ -54,7 +54,7 @@ module _ (s : List ℕ) where
   pub sound-passes : Sound s → checkOf s ≡ verdict 0 0 0
   unfolding checkOf
   sound-passes p =
-      sym (passed-on numberOf (contentsOf s) (bodiesOf s lastKind 1) (contentsOf s) refl (bodiesOf s lastKind 1) (ap numberOf (p .contents)) refl)
+      sym (passed-on numberOf (contentsOf s) (bodiesOf s lastKind zone) (contentsOf s) refl (bodiesOf s lastKind zone) (ap numberOf (p .contents)) refl)
       ∙ no-kind s lastKind 1 (λ j h. ap (λ f. f .number) (none (1 + j) (omega arith) (omega arith)))
     where
       none : (kind : ℕ) → 1 ≤ kind → kind ≤ lastKind → faultOf s kind ≡ fault 0 0

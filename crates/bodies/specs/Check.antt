@@ -1,17 +1,19 @@
 -- The check's answer: the contents first, then the bodies.
+use mathlib.Core.Path.{_≡_}
 use mathlib.Core.List.{List}
 use Prim.Native.Nat.{ℕ, zero, suc}
 use Rattle.words.specs.declared.Fault.{Fault}
 use Rattle.words.specs.Ladder.{orElse, whereIs}
 use Rattle.words.specs.Faults.{firstFault}
 use Rattle.contents.specs.declared.Verdict.{Verdict}
+use Rattle.entries.specs.declared.Places.{Places}
 use Rattle.entries.specs.Layout.{lastKind, zone, latitude, longitude, northing, easting}
-use Rattle.entries.specs.Entries.{rowsOf, bodyOf}
+use Rattle.entries.specs.Entries.{rowsOf, bodyOf, placesOf}
 use Rattle.contents.specs.Contents.{verdict, numberOf, contentsOf}
 use Rattle.rows.specs.Rows.{latitudeFault}
 use Rattle.small_rows.specs.SmallRows.{zoneFault, longitudeFault, northingFault, eastingFault, scaleFault}
 
--- The number of the fault, 0 for none, of row i in the body b of n rows. The kind is 1 to 6, so what is left at the end is scale.
+-- The number of the fault, 0 for none, of row i in the body b of n rows. The kind is one of these six, so what is left at the end is scale.
 unfoldable pub rowFault : ℕ → List ℕ → ℕ → ℕ → ℕ
 rowFault kind b n i =
     whereIs kind zone (zoneFault b i)
@@ -36,4 +38,9 @@ bodiesOf s (suc n) k = orElse numberOf (inKind k (faultOf s k)) (bodiesOf s n (s
 
 -- "Order: 1; word 0; each entry by 2, 3, 4, start; the end; then bodies". 0 is "accepted".
 unfoldable pub checkOf : List ℕ → Verdict
-checkOf s = orElse numberOf (contentsOf s) (bodiesOf s lastKind 1)
+checkOf s = orElse numberOf (contentsOf s) (bodiesOf s lastKind zone)
+
+-- The sheet passes the check, and p are its places: what a conversion on a sheet known to pass asks for. Both are worked once, before the first point.
+pub record KnownToPass (s : List ℕ) (p : Places) : Type 0 where
+  pub passes : checkOf s .number ≡ 0
+  pub places : p ≡ placesOf s

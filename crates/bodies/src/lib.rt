@@ -5,12 +5,12 @@ ghost use mathlib.Core.Path.{_≡_};
 ghost use Prim.Native.Nat.{_*_, _<_, _≤_};
 ghost use lib.ListN.{length};
 ghost use Rattle.words.specs.Faults.{firstFault};
-ghost use Rattle.entries.specs.Layout.{latitude, lastKind, widthOf};
+ghost use Rattle.entries.specs.Layout.{latitude, lastKind, widthOf, rowBytes};
 ghost use Rattle.contents.specs.Contents.{contentsOf};
 ghost use Rattle.rows.specs.Rows.{latitudeFault};
 ghost use Rattle.bodies.specs.Check.{rowFault, faultOf, checkOf};
 
-// The number of the fault of row i of a body of the kind, but latitude, with n rows: the part goes to its kind's checker.
+// The number of the fault of row i of a body with n rows, of any kind but latitude: the part goes to its kind's checker.
 fn row_fault(kind: usize, b: &[u8], n: usize, i: usize) -> u32
     requires { ⌜ (1 ≤ kind) × (kind ≤ lastKind) × (kind ≡ latitude → ⊥) × (4 * (n * widthOf kind) ≤ length (now b)) × (i < n) ⌝ }
     ensures { λ r. ⌜ r ≡ rowFault kind (now (b .entry)) n i ⌝ }
@@ -30,7 +30,7 @@ fn row_fault(kind: usize, b: &[u8], n: usize, i: usize) -> u32
     small_rows::scale_row(b, i)
 }
 
-// The first fault of a body of the kind, but latitude, with n rows.
+// The first fault of a body with n rows, of any kind but latitude.
 fn table(kind: usize, b: &[u8], n: usize) -> Fault
     requires { ⌜ (1 ≤ kind) × (kind ≤ lastKind) × (kind ≡ latitude → ⊥) × (4 * (n * widthOf kind) ≤ length (now b)) ⌝ }
     ensures { λ r. ⌜ r ≡ firstFault (rowFault kind (now (b .entry)) n) n 0 ⌝ }
@@ -51,7 +51,7 @@ fn table(kind: usize, b: &[u8], n: usize) -> Fault
 
 // The first fault of a latitude body of n rows. Each row is read once: it is judged beside the next, and the next then takes its place.
 fn latitude(b: &[u8], n: usize) -> Fault
-    requires { ⌜ (32 * n ≤ length (now b)) × (0 < n) ⌝ }
+    requires { ⌜ (rowBytes latitude * n ≤ length (now b)) × (0 < n) ⌝ }
     ensures { λ r. ⌜ r ≡ firstFault (latitudeFault (now (b .entry)) n) n 0 ⌝ }
 {
     let mut row = rows::row_at(b, 0);
@@ -91,12 +91,8 @@ fn body_of(s: &[u8], kind: usize) -> Fault
     requires { ⌜ (contentsOf (now s) .number ≡ 0) × (1 ≤ kind) × (kind ≤ lastKind) ⌝ }
     ensures { λ r. ⌜ r ≡ faultOf (now (s .entry)) kind ⌝ }
 {
-    let p = entries::place_of(s, kind);
-    let n = p.rows;
-    let w = n * entries::width_of(kind);
-    let a = 4 * p.start;
-    let z = a + 4 * w;
-    body(kind, &s[a..z], n)
+    let place = entries::place_of(s, kind);
+    body(kind, contents::body(s, place, kind), place.rows)
 }
 
 // The check's answer: number, kind, row. A pass is 0 0 0.

@@ -12,8 +12,9 @@ use Rattle.rules.specs.Limits.{inRange, rises, sameAs}
 use Rattle.rules.specs.Latitude.{figuresInRange, withinBounds, differencesOf, noDifferences, sameDifferences}
 use Rattle.rows.specs.Rows.{figuresAt, differencesAt, rowInRange, pairFault, lastFault, latitudeFault}
 use Rattle.small_rows.specs.SmallRows.{zeroFirst, zoneFault, longitudeFault, northingFault, eastingFault, scaleFault}
-use Rattle.entries.specs.Entries.{named, dueAt, entryOf}
-use Rattle.contents.specs.Contents.{within, entryFault, sized, contentsOf}
+use Rattle.entries.specs.Layout.{formNamed}
+use Rattle.entries.specs.Entries.{named, dueAt, entryOf, theEntry, startOf, rowsOf, stepOf, bodyOf}
+use Rattle.contents.specs.Contents.{within, entryFault, sized, contentsBy, contentsOf}
 use Rattle.bodies.specs.Check.{rowFault, bodiesOf, checkOf}
 use Rattle.reading.specs.Tables.{pastRow, pastRowHalf, valueAt, valueHalf, withinRows}
 use Rattle.row_search.specs.Rows.{lastNotAbove}
@@ -66,20 +67,20 @@ half-a-holds = refl
 
 -- ---- a check
 row2048-holds : Holds row2048
-unfolding withSign nearestSize nearest perSecond unsignedAt signed32 wordAt bits32 need whereBelow whereIs orElse firstFault inRange rises sameAs figuresInRange withinBounds differencesOf noDifferences sameDifferences figuresAt differencesAt rowInRange pairFault lastFault latitudeFault zeroFirst zoneFault longitudeFault northingFault eastingFault scaleFault named dueAt entryOf within entryFault sized contentsOf rowFault bodiesOf checkOf bytesOf from2047 row2048
+unfolding withSign nearestSize nearest perSecond unsignedAt signed32 wordAt bits32 need whereBelow whereIs orElse firstFault inRange rises sameAs figuresInRange withinBounds differencesOf noDifferences sameDifferences figuresAt differencesAt rowInRange pairFault lastFault latitudeFault zeroFirst zoneFault longitudeFault northingFault eastingFault scaleFault formNamed named dueAt entryOf theEntry startOf rowsOf stepOf bodyOf within entryFault sized contentsBy contentsOf rowFault bodiesOf checkOf bytesOf from2047 row2048
 row2048-holds = refl
 
 case-passes : checkOf caseSheet .number ≡ 0
-unfolding withSign nearestSize nearest perSecond unsignedAt signed32 wordAt bits32 need whereBelow whereIs orElse firstFault inRange rises sameAs figuresInRange withinBounds differencesOf noDifferences sameDifferences figuresAt differencesAt rowInRange pairFault lastFault latitudeFault zeroFirst zoneFault longitudeFault northingFault eastingFault scaleFault named dueAt entryOf within entryFault sized contentsOf rowFault bodiesOf checkOf bytesOf caseSheet
+unfolding withSign nearestSize nearest perSecond unsignedAt signed32 wordAt bits32 need whereBelow whereIs orElse firstFault inRange rises sameAs figuresInRange withinBounds differencesOf noDifferences sameDifferences figuresAt differencesAt rowInRange pairFault lastFault latitudeFault zeroFirst zoneFault longitudeFault northingFault eastingFault scaleFault formNamed named dueAt entryOf theEntry startOf rowsOf stepOf bodyOf within entryFault sized contentsBy contentsOf rowFault bodiesOf checkOf bytesOf caseSheet
 case-passes = refl
 
 -- ---- the case sheet: it passes, so that each conversion is its steps
 half-m-holds : Holds halfM
-unfolding withSign nearestSize nearest between unsignedAt signed32 wordAt bits32 named dueAt entryOf pastRow valueAt mAt bytesOf caseSheet halfM
+unfolding withSign nearestSize nearest between unsignedAt signed32 wordAt bits32 formNamed named dueAt entryOf theEntry startOf rowsOf stepOf bodyOf pastRow valueAt mAt bytesOf caseSheet halfM
 half-m-holds = refl
 
 half-marked-steps : onGrid (gridOf caseSheet (pos 51_250_000) (pos 5_000_000)) ≡ halfMarked .printed
-unfolding withSign nearestSize nearest onHalfSize onHalf between betweenHalf convergence convergenceHalf unsignedAt signed32 wordAt bits32 need whereBelow whereIs named dueAt entryOf pastRow pastRowHalf valueAt valueHalf withinRows falseEasting mAt mHalf kAt kHalf xPrime scaleKnown northingKnown convergenceAt gridHalf gridAt gridOf bytesOf caseSheet halfMarked
+unfolding withSign nearestSize nearest onHalfSize onHalf between betweenHalf convergence convergenceHalf unsignedAt signed32 wordAt bits32 need whereBelow whereIs formNamed named dueAt entryOf theEntry startOf rowsOf stepOf bodyOf pastRow pastRowHalf valueAt valueHalf withinRows falseEasting mAt mHalf kAt kHalf xPrime scaleKnown northingKnown convergenceAt gridHalf gridAt gridOf bytesOf caseSheet halfMarked
 half-marked-steps = refl
 
 half-marked-holds : Holds halfMarked
@@ -87,7 +88,7 @@ unfolding halfMarked
 half-marked-holds = ap onGrid (grid-on-pass caseSheet (pos 51_250_000) (pos 5_000_000) case-passes) ∙ half-marked-steps
 
 minute31-steps : onEarth (inverseOf caseSheet (pos 50_000_000) (pos 12_713_305)) ≡ minute31 .printed
-unfolding withSign nearestSize nearest onHalfSize onHalf between betweenHalf reduction reductionHalf seconds secondsHalf approximateL approximateLHalf sizeOfL sizeOfLHalf unsignedAt signed32 wordAt bits32 need whereBelow whereIs named dueAt entryOf pastRow pastRowHalf valueAt valueHalf withinRows lastNotAbove centralMeridian falseEasting firstLatitude y0Of hAt hHalf aAt aHalf bAt bHalf pAt pHalf dAt dHalf sizeKnown xPrime eastingKnown northingKnown reducedKnown reducedNorthing reducedHalf rowOf secondsPast secondsPastHalf distanceOf distanceHalf approximateOf sizeOf sizeHalf longitudeOf geographicAt fromDistance fromReduced inverseOf bytesOf caseSheet minute31
+unfolding withSign nearestSize nearest onHalfSize onHalf between betweenHalf reduction reductionHalf seconds secondsHalf approximateL approximateLHalf sizeOfL sizeOfLHalf unsignedAt signed32 wordAt bits32 need whereBelow whereIs formNamed named dueAt entryOf theEntry startOf rowsOf stepOf bodyOf pastRow pastRowHalf valueAt valueHalf withinRows lastNotAbove centralMeridian falseEasting firstLatitude y0Of hAt hHalf aAt aHalf bAt bHalf pAt pHalf dAt dHalf sizeKnown xPrime eastingKnown northingKnown reducedKnown reducedNorthing reducedHalf rowOf secondsPast secondsPastHalf distanceOf distanceHalf approximateOf sizeOf sizeHalf longitudeOf geographicAt fromDistance fromReduced inverseOf bytesOf caseSheet minute31
 minute31-steps = refl
 
 minute31-holds : Holds minute31
@@ -95,7 +96,7 @@ unfolding minute31
 minute31-holds = ap onEarth (inverse-on-pass caseSheet (pos 50_000_000) (pos 12_713_305) case-passes) ∙ minute31-steps
 
 listing-g-steps : onPlane (forwardOf caseSheet (pos 77_430_000) (pos 568_250_000)) ≡ listingG .printed
-unfolding withSign nearestSize nearest onHalfSize onHalf between betweenHalf qOf qHalf sizeOfX sizeOfXHalf rise riseHalf unsignedAt signed32 wordAt bits32 need whereBelow whereIs named dueAt entryOf pastRow pastRowHalf valueAt valueHalf withinRows centralMeridian falseEasting firstLatitude y0At y0Half hAt hHalf vAt vHalf aAt aHalf bAt bHalf cAt cHalf fromFirst latitudeKnown lOf sizeKnown longitudeKnown xSize xOf xHalf yOf yHalf planeFrom planeAt forwardOf bytesOf caseSheet listingG
+unfolding withSign nearestSize nearest onHalfSize onHalf between betweenHalf qOf qHalf sizeOfX sizeOfXHalf rise riseHalf unsignedAt signed32 wordAt bits32 need whereBelow whereIs formNamed named dueAt entryOf theEntry startOf rowsOf stepOf bodyOf pastRow pastRowHalf valueAt valueHalf withinRows centralMeridian falseEasting firstLatitude y0At y0Half hAt hHalf vAt vHalf aAt aHalf bAt bHalf cAt cHalf fromFirst latitudeKnown lOf sizeKnown longitudeKnown xSize xOf xHalf yOf yHalf planeFrom planeAt forwardOf bytesOf caseSheet listingG
 listing-g-steps = refl
 
 listing-g-holds : Holds listingG
@@ -103,7 +104,7 @@ unfolding listingG
 listing-g-holds = ap onPlane (forward-on-pass caseSheet (pos 77_430_000) (pos 568_250_000) case-passes) ∙ listing-g-steps
 
 listing-p-steps : onEarth (inverseOf caseSheet (pos 55_193_582) (pos 12_413_141)) ≡ listingP .printed
-unfolding withSign nearestSize nearest onHalfSize onHalf between betweenHalf reduction reductionHalf seconds secondsHalf approximateL approximateLHalf sizeOfL sizeOfLHalf unsignedAt signed32 wordAt bits32 need whereBelow whereIs named dueAt entryOf pastRow pastRowHalf valueAt valueHalf withinRows lastNotAbove centralMeridian falseEasting firstLatitude y0Of hAt hHalf aAt aHalf bAt bHalf pAt pHalf dAt dHalf sizeKnown xPrime eastingKnown northingKnown reducedKnown reducedNorthing reducedHalf rowOf secondsPast secondsPastHalf distanceOf distanceHalf approximateOf sizeOf sizeHalf longitudeOf geographicAt fromDistance fromReduced inverseOf bytesOf caseSheet listingP
+unfolding withSign nearestSize nearest onHalfSize onHalf between betweenHalf reduction reductionHalf seconds secondsHalf approximateL approximateLHalf sizeOfL sizeOfLHalf unsignedAt signed32 wordAt bits32 need whereBelow whereIs formNamed named dueAt entryOf theEntry startOf rowsOf stepOf bodyOf pastRow pastRowHalf valueAt valueHalf withinRows lastNotAbove centralMeridian falseEasting firstLatitude y0Of hAt hHalf aAt aHalf bAt bHalf pAt pHalf dAt dHalf sizeKnown xPrime eastingKnown northingKnown reducedKnown reducedNorthing reducedHalf rowOf secondsPast secondsPastHalf distanceOf distanceHalf approximateOf sizeOf sizeHalf longitudeOf geographicAt fromDistance fromReduced inverseOf bytesOf caseSheet listingP
 listing-p-steps = refl
 
 listing-p-holds : Holds listingP

@@ -6,6 +6,7 @@ use lib.IntN.{ℤ, pos, negℤ, _-ℤ_}
 use Rattle.figures.specs.Nearest.{withSign, nearest}
 use Rattle.figures.specs.Between.{between}
 use Rattle.steps.specs.Steps.{qOf, sizeOfX, rise, reduction, seconds, perSecond}
+use Rattle.entries.specs.Layout.{oneMinute}
 use Rattle.contents.specs.declared.Verdict.{Verdict}
 use Rattle.bodies.specs.Check.{checkOf}
 use Rattle.tables.specs.Figures.{mAt}
@@ -42,21 +43,21 @@ told v rest = pos (v .number) ∷ pos (v .kind) ∷ pos (v .row) ∷ rest
 -- Document 000, Harvey: at 38°26′17.646″ y0 341,647.98, H 79.567780, between the rows 38°26′ and 38°27′.
 unfoldable pub harvey : Case
 harvey = record {
-  worked = between (pos 33_986_295) (pos 34_593_243) 17_646 60_000 ∷ between (pos 79_573_162) (pos 79_554_863) 17_646 60_000 ∷ [];
+  worked = between (pos 33_986_295) (pos 34_593_243) 17_646 oneMinute ∷ between (pos 79_573_162) (pos 79_554_863) 17_646 oneMinute ∷ [];
   printed = pos 34_164_798 ∷ pos 79_567_780 ∷ [];
 }
 
 -- Document 003, Kahela: at 19°37′23.477″ y0 286,828.13, H 95.595105, between the rows 19°37′ and 19°38′.
 unfoldable pub kahela : Case
 kahela = record {
-  worked = between (pos 28_445_984) (pos 29_051_245) 23_477 60_000 ∷ between (pos 95_598_962) (pos 95_589_105) 23_477 60_000 ∷ [];
+  worked = between (pos 28_445_984) (pos 29_051_245) 23_477 oneMinute ∷ between (pos 95_598_962) (pos 95_589_105) 23_477 oneMinute ∷ [];
   printed = pos 28_682_813 ∷ pos 95_595_105 ∷ [];
 }
 
 -- Kahela back: y0 286,828.14 returns 23.477″, between the y0 of the same rows.
 unfoldable pub kahelaBack : Case
 kahelaBack = record {
-  worked = pos (seconds 60_000 (28_682_814 - 28_445_984) (29_051_245 - 28_445_984)) ∷ [];
+  worked = pos (seconds oneMinute (28_682_814 - 28_445_984) (29_051_245 - 28_445_984)) ∷ [];
   printed = pos 23_477 ∷ [];
 }
 
@@ -121,7 +122,7 @@ row2048 = record {
 -- At 20°48′30″ the rows give H 94.873920; the misprinted per-second column would give 94.873922.
 unfoldable pub h2048 : Case
 h2048 = record {
-  worked = between (pos 94_879_133) (pos 94_868_706) 30_000 60_000 ∷ [];
+  worked = between (pos 94_879_133) (pos 94_868_706) 30_000 oneMinute ∷ [];
   printed = pos 94_873_920 ∷ [];
 }
 
@@ -142,7 +143,7 @@ halfMarked = record {
 -- −0.9875 to three places is −0.988 and not −0.987. The case sheet's a stands there at 21°30′30″, between −0.988 and −0.987.
 unfoldable pub halfA : Case
 halfA = record {
-  worked = nearest (negℤ (pos 9_875)) 10 ∷ between (negℤ (pos 988)) (negℤ (pos 987)) 30_000 60_000 ∷ [];
+  worked = nearest (negℤ (pos 9_875)) 10 ∷ between (negℤ (pos 988)) (negℤ (pos 987)) 30_000 oneMinute ∷ [];
   printed = negℤ (pos 988) ∷ negℤ (pos 988) ∷ [];
 }
 

@@ -5,8 +5,7 @@ use lines::Values;
 ghost use mathlib.Core.Path.{_≡_};
 ghost use Prim.Native.Nat.{_+_, _≤_};
 ghost use lib.ListN.{length};
-ghost use Rattle.entries.specs.Entries.{placesOf};
-ghost use Rattle.bodies.specs.Check.{checkOf};
+ghost use Rattle.bodies.specs.Check.{KnownToPass};
 ghost use Rattle.decimal.specs.Writing.{Wrote};
 ghost use Rattle.asked.specs.Asked.{isForm, lineOf};
 ghost use Rattle.differing.specs.Differing.{differingRows};
@@ -82,7 +81,7 @@ pub fn compare_line(
     out: &mut [u8],
     at: usize,
 ) -> Compared
-    requires { ⌜ (checkOf (now old) .number ≡ 0) × (places .old ≡ placesOf (now old)) × (checkOf (now new) .number ≡ 0) × (places .new ≡ placesOf (now new)) × (at + changeRoom ≤ length (now out)) ⌝ }
+    requires { ⌜ KnownToPass (now old) (places .old) × KnownToPass (now new) (places .new) × (at + changeRoom ≤ length (now out)) ⌝ }
     ensures point { λ r. ⌜ r .point ≡ isForm (lineOf (now (line .entry)) .form) ⌝ }
     ensures changed { λ r. ⌜ r .changed ≡ changes (now (old .entry)) (now (new .entry)) (lineOf (now (line .entry))) ⌝ }
     ensures reached { λ r. ⌜ r .reached ≡ reaches (now (old .entry)) (now (new .entry)) (lineOf (now (line .entry))) (differingRows (now (old .entry)) (now (new .entry))) ⌝ }

@@ -2,3 +2,4 @@
 pub mod Limits
 pub mod Passing
 pub mod OfFault
+pub mod Cut

@@ -2,14 +2,17 @@
 use mathlib.Core.Path.{_≡_, ap}
 use mathlib.Core.List.{List}
 use Prim.Native.Nat.{ℕ, _≤_}
+use native.Mathlib.Omega.{arith}
 use Rattle.words.specs.declared.Fault.{Fault}
 use Rattle.words.specs.Ladder.{orElse}
 use Rattle.words.specs.Faults.{firstFault}
 use Rattle.words.proofs.FirstFault.{place-small}
 use Rattle.words.proofs.Refusals.{refused, passed-on}
 use Rattle.contents.specs.declared.Verdict.{Verdict}
-use Rattle.entries.specs.Layout.{entryCount}
-use Rattle.contents.specs.Contents.{numberOf, inEntries, entryFault}
+use Rattle.entries.specs.declared.Form.{Form}
+use Rattle.entries.specs.Layout.{Small, mostKinds}
+use Rattle.contents.specs.Contents.{numberOf, inEntries, entryFault, contentsBy}
+use Rattle.entries.specs.Entries.{formOf}
 
 module _ (f g : Fault) (y : Verdict) (e : f ≡ g) where
   pub refused-in : (f .number ≡ 0 → ⊥) → inEntries f ≡ orElse numberOf (inEntries g) y
@@ -22,5 +25,9 @@ pub number-none : {f g : Fault} → f ≡ g → f .number ≡ 0 → g .number �
 number-none e n = rw e at n
 
 -- its place is an entry's
-pub entry-place : (s : List ℕ) (f : Fault) → f ≡ firstFault (entryFault s) entryCount 0 → f .place ≤ entryCount
-entry-place s f e = rw e (place-small (entryFault s) entryCount 0)
+pub entry-place : (f : Form) (s : List ℕ) (g : Fault) → Small f → g ≡ firstFault (entryFault f s) (f .kinds) 0 → g .place ≤ mostKinds
+entry-place f s g small e = rw e (omega (arith, place-small (entryFault f s) (f .kinds) 0, small .few))
+
+-- the contents by the sheet's own form
+pub by-form : (s : List ℕ) (f : Form) (r : Verdict) → f ≡ formOf s → r ≡ contentsBy f s → r ≡ contentsBy (formOf s) s
+by-form s f r e q = rw (← e) q

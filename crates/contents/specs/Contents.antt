@@ -1,7 +1,8 @@
 -- The first fault of length, word 0, the entries and the end: numbers 1 to 5.
 use mathlib.Core.Bool.{Bool, not, _&&_}
 use mathlib.Core.List.{List}
-use Prim.Native.Nat.{ℕ, _+_, _*_, _%_}
+use mathlib.Core.Path.{_≡_}
+use Prim.Native.Nat.{ℕ, _+_, _*_, _%_, _≤_}
 use lib.Dec.{leb, eqb}
 use lib.ListN.{length}
 use Rattle.words.specs.declared.Fault.{Fault}
@@ -9,8 +10,10 @@ use Rattle.words.specs.Words.{unsignedAt}
 use Rattle.words.specs.Ladder.{need, orElse}
 use Rattle.words.specs.Faults.{firstFault}
 use Rattle.contents.specs.declared.Verdict.{Verdict}
-use Rattle.entries.specs.Layout.{entryCount, lastKind, leastBytes, mostBytes, leastRows, mostRows}
-use Rattle.entries.specs.Entries.{kindAt, startAt, rowsAt, named, dueAt}
+use Rattle.entries.specs.declared.Form.{Form}
+use Rattle.entries.specs.declared.Place.{Place}
+use Rattle.entries.specs.Layout.{leastBytes, mostBytes, namesForm, lastKind, leastRows, mostRows}
+use Rattle.entries.specs.Entries.{kindAt, startAt, rowsAt, named, dueAt, formOf, placeOf}
 
 -- "The check answers number, kind, row."
 abbrev pub verdict : ℕ → ℕ → ℕ → Verdict
@@ -25,32 +28,43 @@ within least n most = leb least n && leb n most
 
 -- "each entry by 2, 3, 4, start": 2 "kind not 1 to 6"; 3 "kind named by an earlier entry"; 4 "rows outside the kind's limits"; 5 "body start wrong".
 -- The number of entry e's fault, 0 for none. It is asked only where the entries before it have none: dueAt counts on their rows.
-unfoldable pub entryFault : List ℕ → ℕ → ℕ
-entryFault s e =
-    need (within 1 (kindAt s e) lastKind) 2
-    (need (not (named s (kindAt s e) e)) 3
-    (need (within (leastRows (kindAt s e)) (rowsAt s e) (mostRows (kindAt s e))) 4
-    (need (eqb (startAt s e) (dueAt s e)) 5
+unfoldable pub entryFault : Form → List ℕ → ℕ → ℕ
+entryFault f s e =
+    need (within 1 (kindAt f s e) (f .kinds)) 2
+    (need (not (named f s (kindAt f s e) e)) 3
+    (need (within (leastRows (kindAt f s e)) (rowsAt f s e) (mostRows (kindAt f s e))) 4
+    (need (eqb (startAt f s e) (dueAt f s e)) 5
     0)))
 
--- False exactly where 1 is due: "sheet under 76 bytes, over 65,532, or not a multiple of 4"
-unfoldable pub sized : List ℕ → Bool
-sized s = within leastBytes (length s) mostBytes && eqb (length s % 4) 0
-
 -- False exactly where 5 is due: "the bodies' end is not the sheet's end". So "the final body ends the sheet".
-abbrev pub ends : List ℕ → Bool
-ends s = eqb (4 * dueAt s entryCount) (length s)
+abbrev pub ends : Form → List ℕ → Bool
+ends f s = eqb (4 * dueAt f s (f .kinds)) (length s)
 
 -- "kind 0 and the entry's place counted from 1"
 abbrev pub inEntries : Fault → Verdict
-inEntries f = verdict (f .number) 0 (f .place + 1)
+inEntries g = verdict (g .number) 0 (g .place + 1)
 
--- "Order: 1; word 0; each entry by 2, 3, 4, start; the end". "A fault of length, word 0 or contents answers kind 0 and the entry's place counted from 1
--- (0 for length and word 0, one past the last entry for the end)." 2 is for "word 0 not 6" too.
+-- "each entry by 2, 3, 4, start; the end": "kind 0 and the entry's place counted from 1 (.. one past the last entry for the end)".
+unfoldable pub contentsBy : Form → List ℕ → Verdict
+contentsBy f s =
+    orElse numberOf (inEntries (firstFault (entryFault f s) (f .kinds) 0))
+    (need (ends f s) (verdict 5 0 (f .kinds + 1))
+    (verdict 0 0 0))
+
+-- False exactly where 1 is due: "sheet under 76 bytes, over 65,532, or not a multiple of 4". 76 bytes are the contents of 01's form.
+unfoldable pub sized : List ℕ → Bool
+sized s = within (leastBytes (formOf s)) (length s) mostBytes && eqb (length s % 4) 0
+
+-- "Order: 1; word 0; each entry by 2, 3, 4, start; the end". "A fault of length, word 0 or contents answers kind 0 and" as place "0 for length and word 0". 2 is for "word 0 not 6" too.
 unfoldable pub contentsOf : List ℕ → Verdict
 contentsOf s =
     need (sized s) (verdict 1 0 0)
-    (need (eqb (unsignedAt s 0) entryCount) (verdict 2 0 0)
-    (orElse numberOf (inEntries (firstFault (entryFault s) entryCount 0))
-    (need (ends s) (verdict 5 0 (entryCount + 1))
-    (verdict 0 0 0))))
+    (need (namesForm (unsignedAt s 0)) (verdict 2 0 0)
+    (contentsBy (formOf s) s))
+
+-- The contents have no fault, the kind is one that every sheet has, and p is the place of its body: what cutting the body out of the sheet asks for.
+pub record Placed (s : List ℕ) (kind : ℕ) (p : Place) : Type 0 where
+  pub contents : contentsOf s .number ≡ 0
+  pub place : p ≡ placeOf s kind
+  pub least : 1 ≤ kind
+  pub most : kind ≤ lastKind

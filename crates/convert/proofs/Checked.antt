@@ -6,9 +6,10 @@ use lib.IntN.{ℤ}
 use lib.ListN.{length}
 use Rattle.words.proofs.Refusals.{refused, passed-on}
 use Rattle.entries.specs.Layout.{leastBytes}
+use Rattle.entries.specs.Entries.{formOf}
 use Rattle.contents.proofs.Passing.{passed}
 use Rattle.bodies.specs.Check.{checkOf}
-use Rattle.tables.proofs.Parts.{contents-none}
+use Rattle.bodies.proofs.Known.{contents-none}
 use Rattle.forward.specs.declared.Plane.{Plane}
 use Rattle.inverse.specs.declared.Geographic.{Geographic}
 use Rattle.grid.specs.declared.Grid.{Grid}
@@ -29,7 +30,7 @@ module _ {A : Type 0} (number : A → ℕ) (refuse : ℕ → A) (carries : (n : 
   after-fault n e h = refused number (refuse (checkOf s .number)) rest (refuse n) (rw e) (λ k. h (sym (carries n) ∙ k))
 
 -- ---- a sheet that passes has its contents
-pub sheet-long : (s : List ℕ) → checkOf s .number ≡ 0 → leastBytes ≤ length s
+pub sheet-long : (s : List ℕ) → checkOf s .number ≡ 0 → leastBytes (formOf s) ≤ length s
 sheet-long s z = passed s (contents-none s z) .long
 
 -- ---- each conversion

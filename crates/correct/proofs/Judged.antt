@@ -2,21 +2,22 @@
 use mathlib.Core.Path.{_≡_, refl, sym, ap, _∙_}
 use mathlib.Core.Bool.{Bool, true, false, cond}
 use mathlib.Core.List.{List}
-use Prim.Native.Nat.{ℕ, _+_, _*_, _-_}
+use Prim.Native.Nat.{ℕ, _+_, _*_, _-_, _≤_}
+use native.Mathlib.Omega.{arith}
 use lib.Dec.{eqb}
 use lib.IntN.{ℤ}
-use lib.ListN.{take, drop}
+use lib.ListN.{length, take, drop}
 use borrow.Rule.Slice.PartMut.{putMid}
 use Rattle.words.specs.Ladder.{whereIs}
 use Rattle.words.specs.Parts.{putPart}
 use Rattle.words.proofs.Refusals.{is, is-not, refused, passed-on}
-use Rattle.words.proofs.PartWords.{part-is}
 use Rattle.words.proofs.PuttingParts.{part-back, put-back}
 use Rattle.entries.specs.declared.Place.{Place}
 use Rattle.contents.specs.declared.Verdict.{Verdict}
-use Rattle.entries.specs.Layout.{latitude, widthOf}
-use Rattle.entries.specs.Entries.{startOf, rowsOf, bodyOf, placeOf}
-use Rattle.contents.specs.Contents.{numberOf, contentsOf}
+use Rattle.entries.specs.Layout.{latitude, widthOf, rowBytes}
+use Rattle.entries.specs.Entries.{startOf, rowsOf, bodyOf}
+use Rattle.contents.specs.Contents.{numberOf, contentsOf, Placed}
+use Rattle.contents.proofs.Cut.{cut-is}
 use Rattle.rules.specs.declared.Figures.{Figures}
 use Rattle.judge.specs.Judge.{namedRow, judgedBy}
 use Rattle.judge.proofs.Kept.{Kept, zero-keeps}
@@ -35,6 +36,18 @@ module _ (b : List ℕ) (n : ℕ) (minute : ℤ) (f : Figures) where
     pub accepted-writes : number ≡ 0 → (r : ℕ) (t : List ℕ) → r ≡ namedRow b minute → t ≡ rewritten b n r f → t ≡ correctedBody b n minute f
     unfolding correctedBody
     accepted-writes z r t q w = is (judgedBy b n minute f) 0 (rewritten b n (namedRow b minute) f) b t (sym e ∙ z) (w ∙ rw q)
+
+-- ---- the latitude body as it is lent: p is its place
+abbrev lent : List ℕ → Place → List ℕ
+lent s p = take (4 * p .start + 4 * (p .rows * widthOf latitude) - 4 * p .start) (drop (4 * p .start) s)
+
+module _ (s : List ℕ) (p : Place) (placed : Placed s latitude p) where
+  lent-is : (lent s p ≡ bodyOf s latitude) × (length (lent s p) ≡ 4 * (p .rows * widthOf latitude))
+  lent-is = cut-is s latitude p placed (widthOf latitude) refl (lent s p) refl
+
+  -- it has its rows
+  pub lent-rows : rowBytes latitude * p .rows ≤ length (lent s p)
+  lent-rows = omega (arith, lent-is .1)
 
 -- ---- on the sheet
 module _ (s : List ℕ) (minute : ℤ) (f : Figures) where
@@ -63,7 +76,7 @@ module _ (s : List ℕ) (minute : ℤ) (f : Figures) where
 
     -- and the sheet has the body after the correction
     sheet-is : putPart s (startOf s latitude) (rowsOf s latitude * widthOf latitude) (correctedBody (bodyOf s latitude) (rowsOf s latitude) minute f) ≡ correctedOf s minute f
-    unfolding correctedBody correctedOf withRow whereIs
+    unfolding correctedBody correctedOf withRow whereIs bodyOf
     sheet-is = rw number-is (pick (eqb (judgedBy (bodyOf s latitude) (rowsOf s latitude) minute f) 0))
       where
         new : List ℕ
@@ -76,17 +89,11 @@ module _ (s : List ℕ) (minute : ℤ) (f : Figures) where
         pick true = refl
         pick false = put-back s (startOf s latitude) (rowsOf s latitude * widthOf latitude)
 
-    -- ---- in the shape of the code: p is the latitude body's place, and t what came back of the part
-    module _ (p : Place) (width : ℕ) (e : p ≡ placeOf s latitude) (w : width ≡ widthOf latitude) where
-      abbrev lent : List ℕ
-      lent = take (4 * p .start + 4 * (p .rows * width) - 4 * p .start) (drop (4 * p .start) s)
+  -- ---- in the shape of the code: t is what came back of the part
+  module _ (p : Place) (placed : Placed s latitude p) where
+    pub sheet-number : (number : ℕ) → number ≡ judgedBy (lent s p) (p .rows) minute f → number ≡ correctionOf s minute f
+    sheet-number number q = q ∙ rw (lent-is s p placed .0, placed .place) (sym (number-is (placed .contents)))
 
-      lent-is : lent ≡ bodyOf s latitude
-      lent-is = part-is s (p .start) (p .rows * width) ∙ rw (e, w)
-
-      pub sheet-number : (number : ℕ) → number ≡ judgedBy lent (p .rows) minute f → number ≡ correctionOf s minute f
-      sheet-number number q = q ∙ rw (lent-is, e) (sym number-is)
-
-      pub sheet-after : (t : List ℕ) → t ≡ correctedBody lent (p .rows) minute f
-          → putMid (4 * p .start) (4 * p .start + 4 * (p .rows * width) - 4 * p .start) s t ≡ correctedOf s minute f
-      sheet-after t q = part-back s t (p .start) (p .rows * width) ∙ rw (q, lent-is, e, w) sheet-is
+    pub sheet-after : (t : List ℕ) → t ≡ correctedBody (lent s p) (p .rows) minute f
+        → putMid (4 * p .start) (4 * p .start + 4 * (p .rows * widthOf latitude) - 4 * p .start) s t ≡ correctedOf s minute f
+    sheet-after t q = part-back s t (p .start) (p .rows * widthOf latitude) ∙ rw (q, lent-is s p placed .0, placed .place) (sheet-is (placed .contents))

@@ -11,6 +11,7 @@ use lib.ListN.{length}
 use Rattle.words.specs.Words.{wordAt}
 use Rattle.words.specs.Ladder.{whereBelow}
 use Rattle.words.proofs.Refusals.{where-below, where-beyond}
+use Rattle.entries.specs.Layout.{latitude, widthOf, rowBytes}
 use Rattle.rules.specs.declared.Figures.{Figures}
 use Rattle.rules.specs.Latitude.{figuresInRange, withinBounds}
 use Rattle.rows.specs.Rows.{figuresAt, differencesAt}
@@ -25,7 +26,7 @@ module _ (b : List ℕ) (n i : ℕ) where
   unfolding reworked
   length-reworked = length-putDifferences b i (workedAt b n i)
 
-  minute-reworked : (j : ℕ) → wordAt (reworked b n i) (8 * j) ≡ wordAt b (8 * j)
+  minute-reworked : (j : ℕ) → wordAt (reworked b n i) (widthOf latitude * j) ≡ wordAt b (widthOf latitude * j)
   unfolding reworked
   minute-reworked j = minute-by-differences b i (workedAt b n i) j
 
@@ -37,7 +38,7 @@ module _ (b : List ℕ) (n i : ℕ) where
   unfolding reworked
   other-reworked j h = differences-elsewhere b i (workedAt b n i) j h
 
-  own-reworked : 32 * i + 32 ≤ length b → DifferencesFit (workedAt b n i) → differencesAt (reworked b n i) i ≡ workedAt b n i
+  own-reworked : rowBytes latitude * i + rowBytes latitude ≤ length b → DifferencesFit (workedAt b n i) → differencesAt (reworked b n i) i ≡ workedAt b n i
   unfolding reworked
   own-reworked long fit = differences-put b i (workedAt b n i) long fit
 
@@ -73,10 +74,10 @@ module _ (b : List ℕ) (n r : ℕ) (f : Figures) where
   pub length-rewritten : length (rewritten b n r f) ≡ length b
   length-rewritten = by-place (λ t. length t ≡ length b) (λ h. length-own) (λ h. length-reworked own n (r - 1) ∙ length-own)
 
-  pub minutes-stay : (j : ℕ) → wordAt (rewritten b n r f) (8 * j) ≡ wordAt b (8 * j)
+  pub minutes-stay : (j : ℕ) → wordAt (rewritten b n r f) (widthOf latitude * j) ≡ wordAt b (widthOf latitude * j)
   minutes-stay j =
-      let mine : wordAt own (8 * j) ≡ wordAt b (8 * j) = minute-reworked placed n r j ∙ minute-by-figures b r f j in
-      by-place (λ t. wordAt t (8 * j) ≡ wordAt b (8 * j)) (λ h. mine) (λ h. minute-reworked own n (r - 1) j ∙ mine)
+      let mine : wordAt own (widthOf latitude * j) ≡ wordAt b (widthOf latitude * j) = minute-reworked placed n r j ∙ minute-by-figures b r f j in
+      by-place (λ t. wordAt t (widthOf latitude * j) ≡ wordAt b (widthOf latitude * j)) (λ h. mine) (λ h. minute-reworked own n (r - 1) j ∙ mine)
 
   figures-rewritten : (j : ℕ) → figuresAt (rewritten b n r f) j ≡ figuresAt placed j
   figures-rewritten j =
@@ -90,7 +91,7 @@ module _ (b : List ℕ) (n r : ℕ) (f : Figures) where
       let mine : differencesAt own j ≡ differencesAt b j = other-reworked placed n r j h ∙ differences-by-figures b r f j in
       by-place (λ t. differencesAt t j ≡ differencesAt b j) (λ z. mine) (λ z. other-reworked own n (r - 1) j (λ q. k (omega arith)) ∙ mine)
 
-  module _ (long : 32 * n ≤ length b) (there : r < n) (fit : FiguresFit f) where
+  module _ (long : rowBytes latitude * n ≤ length b) (there : r < n) (fit : FiguresFit f) where
     placed-here : figuresAt placed r ≡ f
     placed-here = figures-put b r f (omega arith) fit
 
@@ -116,17 +117,17 @@ module _ (b : List ℕ) (n r : ℕ) (f : Figures) where
 
 -- ---- in the shape of the code: t has the new figures, u row r's differences too, and v those of the row before
 module _ (b : List ℕ) (n r : ℕ) (f : Figures) where
-  module _ (long : 32 * n ≤ length b) (there : r < n) (range : figuresInRange f ≡ true) (t : List ℕ) (p : t ≡ putFigures b r f) where
+  module _ (long : rowBytes latitude * n ≤ length b) (there : r < n) (range : figuresInRange f ≡ true) (t : List ℕ) (p : t ≡ putFigures b r f) where
     here : figuresAt t r ≡ f
     here = rw p (figures-put b r f (omega arith) (figures-fit f range))
 
-    pub own-asks : boundAfter b n r f ≡ true → (32 * n ≤ length t) × (r < n) × (r + 1 < n → withinBounds (figuresAt t r) (figuresAt t (r + 1)) ≡ true)
+    pub own-asks : boundAfter b n r f ≡ true → (rowBytes latitude * n ≤ length t) × (r < n) × (r + 1 < n → withinBounds (figuresAt t r) (figuresAt t (r + 1)) ≡ true)
     own-asks e =
         let next : figuresAt t (r + 1) ≡ figuresAt b (r + 1) = rw p (figures-elsewhere b r f (r + 1) (omega arith)) in
         (rw (p, length-putFigures b r f) long, there, λ h. rw (here, next) (bound-after b r f n e h))
 
     pub before-asks : boundBefore b r f ≡ true → 0 < r → (u : List ℕ) → u ≡ reworked t n r
-        → (32 * n ≤ length u) × (r - 1 < n) × (r - 1 + 1 < n → withinBounds (figuresAt u (r - 1)) (figuresAt u (r - 1 + 1)) ≡ true)
+        → (rowBytes latitude * n ≤ length u) × (r - 1 < n) × (r - 1 + 1 < n → withinBounds (figuresAt u (r - 1)) (figuresAt u (r - 1 + 1)) ≡ true)
     before-asks e h u q =
         let at : r - 1 + 1 ≡ r = omega arith in
         let this : figuresAt u r ≡ f = rw q (figures-reworked t n r r ∙ here) in

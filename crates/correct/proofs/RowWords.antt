@@ -15,12 +15,17 @@ use Rattle.figures.proofs.Holds.{fits}
 use Rattle.steps.proofs.StepBounds.{per-second-most}
 use Rattle.words.specs.Words.{wordAt, putWord}
 use Rattle.words.proofs.Writing.{wordAt-put, wordAt-put-other, length-putWord}
+use Rattle.entries.specs.Layout.{latitude, widthOf, rowBytes}
 use Rattle.rules.specs.declared.Figures.{Figures}
 use Rattle.rules.specs.declared.Differences.{Differences}
 use Rattle.rules.specs.Latitude.{figuresInRange, withinBounds, differencesOf, noDifferences}
 use Rattle.rules.proofs.WhatPasses.{figures-in, changes}
 use Rattle.rows.specs.Rows.{figuresAt, differencesAt}
 use Rattle.correct.specs.Correction.{putFigures, putDifferences}
+
+-- words in a latitude row
+abbrev width : ℕ
+width = widthOf latitude
 
 -- figures and differences that a word holds
 pub record FiguresFit (f : Figures) : Type 0 where
@@ -65,62 +70,62 @@ module _ (b : List ℕ) (i : ℕ) (f : Figures) where
   unfolding putFigures
   length-putFigures = simp length-putWord
 
-  pub figures-keep : (j : ℕ) → j ≢ 8 * i + 1 → j ≢ 8 * i + 3 → j ≢ 8 * i + 5 → j ≢ 8 * i + 7 → wordAt (putFigures b i f) j ≡ wordAt b j
+  pub figures-keep : (j : ℕ) → j ≢ width * i + 1 → j ≢ width * i + 3 → j ≢ width * i + 5 → j ≢ width * i + 7 → wordAt (putFigures b i f) j ≡ wordAt b j
   unfolding putFigures
   figures-keep j n₁ n₃ n₅ n₇ = rw (wordAt-put-other, wordAt-put-other, wordAt-put-other, wordAt-put-other)
 
   module _ (j : ℕ) where
-    pub minute-by-figures : wordAt (putFigures b i f) (8 * j) ≡ wordAt b (8 * j)
-    minute-by-figures = figures-keep (8 * j) (omega arith) (omega arith) (omega arith) (omega arith)
+    pub minute-by-figures : wordAt (putFigures b i f) (width * j) ≡ wordAt b (width * j)
+    minute-by-figures = figures-keep (width * j) (omega arith) (omega arith) (omega arith) (omega arith)
 
     pub differences-by-figures : differencesAt (putFigures b i f) j ≡ differencesAt b j
     unfolding differencesAt
     differences-by-figures =
         rw (
-          figures-keep (8 * j + 2) (omega arith) (omega arith) (omega arith) (omega arith),
-          figures-keep (8 * j + 4) (omega arith) (omega arith) (omega arith) (omega arith),
-          figures-keep (8 * j + 6) (omega arith) (omega arith) (omega arith) (omega arith),
+          figures-keep (width * j + 2) (omega arith) (omega arith) (omega arith) (omega arith),
+          figures-keep (width * j + 4) (omega arith) (omega arith) (omega arith) (omega arith),
+          figures-keep (width * j + 6) (omega arith) (omega arith) (omega arith) (omega arith),
         )
 
     pub figures-elsewhere : j ≢ i → figuresAt (putFigures b i f) j ≡ figuresAt b j
     unfolding figuresAt
     figures-elsewhere n =
         rw (
-          figures-keep (8 * j + 1) (omega arith) (omega arith) (omega arith) (omega arith),
-          figures-keep (8 * j + 3) (omega arith) (omega arith) (omega arith) (omega arith),
-          figures-keep (8 * j + 5) (omega arith) (omega arith) (omega arith) (omega arith),
-          figures-keep (8 * j + 7) (omega arith) (omega arith) (omega arith) (omega arith),
+          figures-keep (width * j + 1) (omega arith) (omega arith) (omega arith) (omega arith),
+          figures-keep (width * j + 3) (omega arith) (omega arith) (omega arith) (omega arith),
+          figures-keep (width * j + 5) (omega arith) (omega arith) (omega arith) (omega arith),
+          figures-keep (width * j + 7) (omega arith) (omega arith) (omega arith) (omega arith),
         )
 
-  module _ (long : 32 * i + 32 ≤ length b) (fit : FiguresFit f) where
-    y0-put : wordAt (putFigures b i f) (8 * i + 1) ≡ f .y0
+  module _ (long : rowBytes latitude * i + rowBytes latitude ≤ length b) (fit : FiguresFit f) where
+    y0-put : wordAt (putFigures b i f) (width * i + 1) ≡ f .y0
     unfolding putFigures
     y0-put =
-        let n₃ : 8 * i + 1 ≢ 8 * i + 3 = omega arith in
-        let n₅ : 8 * i + 1 ≢ 8 * i + 5 = omega arith in
-        let n₇ : 8 * i + 1 ≢ 8 * i + 7 = omega arith in
-        let l : 4 * (8 * i + 1) + 4 ≤ length b = omega arith in
+        let n₃ : width * i + 1 ≢ width * i + 3 = omega arith in
+        let n₅ : width * i + 1 ≢ width * i + 5 = omega arith in
+        let n₇ : width * i + 1 ≢ width * i + 7 = omega arith in
+        let l : 4 * (width * i + 1) + 4 ≤ length b = omega arith in
         rw (wordAt-put-other, wordAt-put-other, wordAt-put-other, wordAt-put _ _ _ l (fit .y0))
 
-    h-put : wordAt (putFigures b i f) (8 * i + 3) ≡ f .h
+    h-put : wordAt (putFigures b i f) (width * i + 3) ≡ f .h
     unfolding putFigures
     h-put =
-        let n₅ : 8 * i + 3 ≢ 8 * i + 5 = omega arith in
-        let n₇ : 8 * i + 3 ≢ 8 * i + 7 = omega arith in
-        let l : 4 * (8 * i + 3) + 4 ≤ length (putWord b (8 * i + 1) (f .y0)) = rw length-putWord (omega arith) in
+        let n₅ : width * i + 3 ≢ width * i + 5 = omega arith in
+        let n₇ : width * i + 3 ≢ width * i + 7 = omega arith in
+        let l : 4 * (width * i + 3) + 4 ≤ length (putWord b (width * i + 1) (f .y0)) = rw length-putWord (omega arith) in
         rw (wordAt-put-other, wordAt-put-other, wordAt-put _ _ _ l (fit .h))
 
-    v-put : wordAt (putFigures b i f) (8 * i + 5) ≡ f .v
+    v-put : wordAt (putFigures b i f) (width * i + 5) ≡ f .v
     unfolding putFigures
     v-put =
-        let n₇ : 8 * i + 5 ≢ 8 * i + 7 = omega arith in
-        let l : 4 * (8 * i + 5) + 4 ≤ length (putWord (putWord b (8 * i + 1) (f .y0)) (8 * i + 3) (f .h)) = simp length-putWord (omega arith) in
+        let n₇ : width * i + 5 ≢ width * i + 7 = omega arith in
+        let l : 4 * (width * i + 5) + 4 ≤ length (putWord (putWord b (width * i + 1) (f .y0)) (width * i + 3) (f .h)) = simp length-putWord (omega arith) in
         rw (wordAt-put-other, wordAt-put _ _ _ l (fit .v))
 
-    a-put : wordAt (putFigures b i f) (8 * i + 7) ≡ f .a
+    a-put : wordAt (putFigures b i f) (width * i + 7) ≡ f .a
     unfolding putFigures
     a-put =
-        let l : 4 * (8 * i + 7) + 4 ≤ length (putWord (putWord (putWord b (8 * i + 1) (f .y0)) (8 * i + 3) (f .h)) (8 * i + 5) (f .v)) = simp length-putWord (omega arith) in
+        let l : 4 * (width * i + 7) + 4 ≤ length (putWord (putWord (putWord b (width * i + 1) (f .y0)) (width * i + 3) (f .h)) (width * i + 5) (f .v)) = simp length-putWord (omega arith) in
         rw (wordAt-put _ _ _ l (fit .a))
 
     pub figures-put : figuresAt (putFigures b i f) i ≡ f
@@ -135,53 +140,53 @@ module _ (b : List ℕ) (i : ℕ) (d : Differences) where
   unfolding putDifferences
   length-putDifferences = simp length-putWord
 
-  pub differences-keep : (j : ℕ) → j ≢ 8 * i + 2 → j ≢ 8 * i + 4 → j ≢ 8 * i + 6 → wordAt (putDifferences b i d) j ≡ wordAt b j
+  pub differences-keep : (j : ℕ) → j ≢ width * i + 2 → j ≢ width * i + 4 → j ≢ width * i + 6 → wordAt (putDifferences b i d) j ≡ wordAt b j
   unfolding putDifferences
   differences-keep j n₂ n₄ n₆ = rw (wordAt-put-other, wordAt-put-other, wordAt-put-other)
 
   module _ (j : ℕ) where
-    pub minute-by-differences : wordAt (putDifferences b i d) (8 * j) ≡ wordAt b (8 * j)
-    minute-by-differences = differences-keep (8 * j) (omega arith) (omega arith) (omega arith)
+    pub minute-by-differences : wordAt (putDifferences b i d) (width * j) ≡ wordAt b (width * j)
+    minute-by-differences = differences-keep (width * j) (omega arith) (omega arith) (omega arith)
 
     pub figures-by-differences : figuresAt (putDifferences b i d) j ≡ figuresAt b j
     unfolding figuresAt
     figures-by-differences =
         rw (
-          differences-keep (8 * j + 1) (omega arith) (omega arith) (omega arith),
-          differences-keep (8 * j + 3) (omega arith) (omega arith) (omega arith),
-          differences-keep (8 * j + 5) (omega arith) (omega arith) (omega arith),
-          differences-keep (8 * j + 7) (omega arith) (omega arith) (omega arith),
+          differences-keep (width * j + 1) (omega arith) (omega arith) (omega arith),
+          differences-keep (width * j + 3) (omega arith) (omega arith) (omega arith),
+          differences-keep (width * j + 5) (omega arith) (omega arith) (omega arith),
+          differences-keep (width * j + 7) (omega arith) (omega arith) (omega arith),
         )
 
     pub differences-elsewhere : j ≢ i → differencesAt (putDifferences b i d) j ≡ differencesAt b j
     unfolding differencesAt
     differences-elsewhere n =
         rw (
-          differences-keep (8 * j + 2) (omega arith) (omega arith) (omega arith),
-          differences-keep (8 * j + 4) (omega arith) (omega arith) (omega arith),
-          differences-keep (8 * j + 6) (omega arith) (omega arith) (omega arith),
+          differences-keep (width * j + 2) (omega arith) (omega arith) (omega arith),
+          differences-keep (width * j + 4) (omega arith) (omega arith) (omega arith),
+          differences-keep (width * j + 6) (omega arith) (omega arith) (omega arith),
         )
 
-  module _ (long : 32 * i + 32 ≤ length b) (fit : DifferencesFit d) where
-    y-put : wordAt (putDifferences b i d) (8 * i + 2) ≡ d .y
+  module _ (long : rowBytes latitude * i + rowBytes latitude ≤ length b) (fit : DifferencesFit d) where
+    y-put : wordAt (putDifferences b i d) (width * i + 2) ≡ d .y
     unfolding putDifferences
     y-put =
-        let n₄ : 8 * i + 2 ≢ 8 * i + 4 = omega arith in
-        let n₆ : 8 * i + 2 ≢ 8 * i + 6 = omega arith in
-        let l : 4 * (8 * i + 2) + 4 ≤ length b = omega arith in
+        let n₄ : width * i + 2 ≢ width * i + 4 = omega arith in
+        let n₆ : width * i + 2 ≢ width * i + 6 = omega arith in
+        let l : 4 * (width * i + 2) + 4 ≤ length b = omega arith in
         rw (wordAt-put-other, wordAt-put-other, wordAt-put _ _ _ l (fit .y))
 
-    dh-put : wordAt (putDifferences b i d) (8 * i + 4) ≡ d .h
+    dh-put : wordAt (putDifferences b i d) (width * i + 4) ≡ d .h
     unfolding putDifferences
     dh-put =
-        let n₆ : 8 * i + 4 ≢ 8 * i + 6 = omega arith in
-        let l : 4 * (8 * i + 4) + 4 ≤ length (putWord b (8 * i + 2) (d .y)) = rw length-putWord (omega arith) in
+        let n₆ : width * i + 4 ≢ width * i + 6 = omega arith in
+        let l : 4 * (width * i + 4) + 4 ≤ length (putWord b (width * i + 2) (d .y)) = rw length-putWord (omega arith) in
         rw (wordAt-put-other, wordAt-put _ _ _ l (fit .h))
 
-    dv-put : wordAt (putDifferences b i d) (8 * i + 6) ≡ d .v
+    dv-put : wordAt (putDifferences b i d) (width * i + 6) ≡ d .v
     unfolding putDifferences
     dv-put =
-        let l : 4 * (8 * i + 6) + 4 ≤ length (putWord (putWord b (8 * i + 2) (d .y)) (8 * i + 4) (d .h)) = simp length-putWord (omega arith) in
+        let l : 4 * (width * i + 6) + 4 ≤ length (putWord (putWord b (width * i + 2) (d .y)) (width * i + 4) (d .h)) = simp length-putWord (omega arith) in
         rw (wordAt-put _ _ _ l (fit .v))
 
     pub differences-put : differencesAt (putDifferences b i d) i ≡ d

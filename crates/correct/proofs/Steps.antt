@@ -6,6 +6,7 @@ use Prim.Native.Nat.{ℕ, _+_, _*_, _<_, _≤_}
 use lib.IntN.{ℤ}
 use Rattle.words.specs.Words.{putWord}
 use Rattle.words.proofs.Refusals.{where-below, where-beyond}
+use Rattle.entries.specs.Layout.{latitude, widthOf}
 use Rattle.rules.specs.declared.Figures.{Figures}
 use Rattle.rules.specs.declared.Differences.{Differences}
 use Rattle.rules.specs.Latitude.{withinBounds, differencesOf, noDifferences}
@@ -33,13 +34,13 @@ read-bounds b n i g h l e q w = rw (e, q) (w l)
 -- ---- word after word
 module _ (b : List ℕ) (i : ℕ) (x y z : ℤ) (t₁ t₂ t₃ : List ℕ) where
   pub four-put : (f : Figures) (u : ℤ) (t₄ : List ℕ) → x ≡ f .y0 → y ≡ f .h → z ≡ f .v → u ≡ f .a
-      → t₁ ≡ putWord b (8 * i + 1) x → t₂ ≡ putWord t₁ (8 * i + 3) y → t₃ ≡ putWord t₂ (8 * i + 5) z → t₄ ≡ putWord t₃ (8 * i + 7) u
+      → t₁ ≡ putWord b (widthOf latitude * i + 1) x → t₂ ≡ putWord t₁ (widthOf latitude * i + 3) y → t₃ ≡ putWord t₂ (widthOf latitude * i + 5) z → t₄ ≡ putWord t₃ (widthOf latitude * i + 7) u
       → t₄ ≡ putFigures b i f
   unfolding putFigures
   four-put f u t₄ ex ey ez eu p q r s = rw (s, r, q, p, ex, ey, ez, eu)
 
   pub three-put : (d : Differences) → x ≡ d .y → y ≡ d .h → z ≡ d .v
-      → t₁ ≡ putWord b (8 * i + 2) x → t₂ ≡ putWord t₁ (8 * i + 4) y → t₃ ≡ putWord t₂ (8 * i + 6) z
+      → t₁ ≡ putWord b (widthOf latitude * i + 2) x → t₂ ≡ putWord t₁ (widthOf latitude * i + 4) y → t₃ ≡ putWord t₂ (widthOf latitude * i + 6) z
       → t₃ ≡ putDifferences b i d
   unfolding putDifferences
   three-put d ex ey ez p q r = rw (r, q, p, ex, ey, ez)

@@ -26,10 +26,10 @@ correctionOf s minute f = orElse (λ n. n) (contentsOf s .number) (judgedBy (bod
 
 -- ---- "Accepted, it writes the four figures and the reworked differences of that row and the row before"
 unfoldable pub putFigures : List ℕ → ℕ → Figures → List ℕ
-putFigures b i f = putWord (putWord (putWord (putWord b (8 * i + 1) (f .y0)) (8 * i + 3) (f .h)) (8 * i + 5) (f .v)) (8 * i + 7) (f .a)
+putFigures b i f = putWord (putWord (putWord (putWord b (widthOf latitude * i + 1) (f .y0)) (widthOf latitude * i + 3) (f .h)) (widthOf latitude * i + 5) (f .v)) (widthOf latitude * i + 7) (f .a)
 
 unfoldable pub putDifferences : List ℕ → ℕ → Differences → List ℕ
-putDifferences b i d = putWord (putWord (putWord b (8 * i + 2) (d .y)) (8 * i + 4) (d .h)) (8 * i + 6) (d .v)
+putDifferences b i d = putWord (putWord (putWord b (widthOf latitude * i + 2) (d .y)) (widthOf latitude * i + 4) (d .h)) (widthOf latitude * i + 6) (d .v)
 
 -- Row i's differences as its figures and the next row's give them; in the last row all three are 0.
 unfoldable pub workedAt : List ℕ → ℕ → ℕ → Differences

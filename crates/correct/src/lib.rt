@@ -5,6 +5,7 @@ ghost use mathlib.Core.Path.{_≡_};
 ghost use mathlib.Core.Bool.{true};
 ghost use Prim.Native.Nat.{_+_, _*_, _<_, _≤_};
 ghost use lib.ListN.{length};
+ghost use Rattle.entries.specs.Layout.{latitude, rowBytes};
 ghost use Rattle.rules.specs.Latitude.{figuresInRange, withinBounds};
 ghost use Rattle.rows.specs.Rows.{figuresAt};
 ghost use Rattle.judge.specs.Judge.{boundBefore, boundAfter, judgedBy};
@@ -12,28 +13,28 @@ ghost use Rattle.correct.specs.Correction.{correctionOf, putFigures, put
 
 // The figures become row i's.
 fn put_figures(b: &mut [u8], i: usize, f: Figures)
-    requires { ⌜ 32 * i + 32 ≤ length (now b) ⌝ }
+    requires { ⌜ rowBytes latitude * i + rowBytes latitude ≤ length (now b) ⌝ }
     ensures { λ _. ⌜ now (b .exit) ≡ putFigures (now (b .entry)) i f ⌝ }
 {
-    words::put_word(b, 8 * i + 1, f.y0);
-    words::put_word(b, 8 * i + 3, f.h);
-    words::put_word(b, 8 * i + 5, f.v);
-    words::put_word(b, 8 * i + 7, f.a);
+    words::put_word(b, entries::LATITUDE_WIDTH * i + 1, f.y0);
+    words::put_word(b, entries::LATITUDE_WIDTH * i + 3, f.h);
+    words::put_word(b, entries::LATITUDE_WIDTH * i + 5, f.v);
+    words::put_word(b, entries::LATITUDE_WIDTH * i + 7, f.a);
 }
 
 // The differences become row i's.
 fn put_differences(b: &mut [u8], i: usize, d: Differences)
-    requires { ⌜ 32 * i + 32 ≤ length (now b) ⌝ }
+    requires { ⌜ rowBytes latitude * i + rowBytes latitude ≤ length (now b) ⌝ }
     ensures { λ _. ⌜ now (b .exit) ≡ putDifferences (now (b .entry)) i d ⌝ }
 {
-    words::put_word(b, 8 * i + 2, d.y);
-    words::put_word(b, 8 * i + 4, d.h);
-    words::put_word(b, 8 * i + 6, d.v);
+    words::put_word(b, entries::LATITUDE_WIDTH * i + 2, d.y);
+    words::put_word(b, entries::LATITUDE_WIDTH * i + 4, d.h);
+    words::put_word(b, entries::LATITUDE_WIDTH * i + 6, d.v);
 }
 
 // The differences of row i of n, as its figures and the next row's give them.
 fn worked_at(b: &[u8], n: usize, i: usize) -> Differences
-    requires { ⌜ (32 * n ≤ length (now b)) × (i < n) × (i + 1 < n → withinBounds (figuresAt (now b) i) (figuresAt (now b) (i + 1)) ≡ true) ⌝ }
+    requires { ⌜ (rowBytes latitude * n ≤ length (now b)) × (i < n) × (i + 1 < n → withinBounds (figuresAt (now b) i) (figuresAt (now b) (i + 1)) ≡ true) ⌝ }
     ensures { λ d. ⌜ d ≡ workedAt (now (b .entry)) n i ⌝ }
 {
     if i + 1 < n {
@@ -44,7 +45,7 @@ fn worked_at(b: &[u8], n: usize, i: usize) -> Differences
 
 // Row i's differences are worked again and written.
 fn rework(b: &mut [u8], n: usize, i: usize)
-    requires { ⌜ (32 * n ≤ length (now b)) × (i < n) × (i + 1 < n → withinBounds (figuresAt (now b) i) (figuresAt (now b) (i + 1)) ≡ true) ⌝ }
+    requires { ⌜ (rowBytes latitude * n ≤ length (now b)) × (i < n) × (i + 1 < n → withinBounds (figuresAt (now b) i) (figuresAt (now b) (i + 1)) ≡ true) ⌝ }
     ensures { λ _. ⌜ now (b .exit) ≡ reworked (now (b .entry)) n i ⌝ }
 {
     let d = worked_at(b, n, i);
@@ -53,7 +54,7 @@ fn rework(b: &mut [u8], n: usize, i: usize)
 
 // Row r of n gets the new figures, and it and the row before it their differences.
 fn rewrite(b: &mut [u8], n: usize, r: usize, f: Figures)
-    requires { ⌜ (32 * n ≤ length (now b)) × (r < n) × (figuresInRange f ≡ true) × (boundBefore (now b) r f ≡ true) × (boundAfter (now b) n r f ≡ true) ⌝ }
+    requires { ⌜ (rowBytes latitude * n ≤ length (now b)) × (r < n) × (figuresInRange f ≡ true) × (boundBefore (now b) r f ≡ true) × (boundAfter (now b) n r f ≡ true) ⌝ }
     ensures { λ _. ⌜ now (b .exit) ≡ rewritten (now (b .entry)) n r f ⌝ }
 {
     put_figures(b, r, f);
@@ -65,7 +66,7 @@ fn rewrite(b: &mut [u8], n: usize, r: usize, f: Figures)
 
 // 16, 6 or 8, and the body of n rows stays; or 0, and the minute's row has the new figures.
 fn correct_body(b: &mut [u8], n: usize, minute: i32, f: Figures) -> u32
-    requires { ⌜ (0 < n) × (32 * n ≤ length (now b)) ⌝ }
+    requires { ⌜ (0 < n) × (rowBytes latitude * n ≤ length (now b)) ⌝ }
     ensures answer { λ r. ⌜ r ≡ judgedBy (now (b .entry)) n minute f ⌝ }
     ensures memory { λ _. ⌜ now (b .exit) ≡ correctedBody (now (b .entry)) n minute f ⌝ }
 {
@@ -88,10 +89,13 @@ pub fn correct(sheet: &mut [u8], minute: i32, y0: i32, h: i32, v: i32, a: i32) -
     if number != 0 {
         return number;
     }
-    let p = entries::place_of(sheet, entries::LATITUDE);
-    let n = p.rows;
-    let w = n * entries::width_of(entries::LATITUDE);
-    let start = 4 * p.start;
-    let end = start + 4 * w;
-    correct_body(&mut sheet[start..end], n, minute, Figures { y0, h, v, a })
+    let place = entries::place_of(sheet, entries::LATITUDE);
+    let start = 4 * place.start;
+    let end = start + 4 * (place.rows * entries::LATITUDE_WIDTH);
+    correct_body(
+        &mut sheet[start..end],
+        place.rows,
+        minute,
+        Figures { y0, h, v, a },
+    )
 }

@@ -1,13 +1,13 @@
 -- Two sheets that differ in the figures of latitude row r alone: every figure that a conversion reads elsewhere is the same in both. Assumes nothing.
-use mathlib.Core.Path.{_≡_, ap}
+use mathlib.Core.Path.{_≡_, ap, _∙_}
 use mathlib.Core.List.{List}
 use mathlib.Core.Logic.{_⊎_, inl, inr}
 use Prim.Native.Nat.{ℕ, _+_, _-_, _*_, _<_, _≤_}
 use native.Mathlib.Omega.{arith}
 use lib.Dec.{lit<, lit≤}
 use lib.IntN.{ℤ, pos, natAbs, _-ℤ_, _*ℤ_}
-use Rattle.entries.specs.Layout.{lastKind, zone, latitude, longitude, northing, easting, scale, widthOf, stepOf}
-use Rattle.entries.specs.Entries.{rowsOf, bodyOf}
+use Rattle.entries.specs.Layout.{lastKind, zone, latitude, longitude, northing, easting, scale, widthOf, oneMinute}
+use Rattle.entries.specs.Entries.{rowsOf, bodyOf, stepOf}
 use Rattle.reading.specs.Tables.{column, valueAt, valueHalf, withinRows}
 use Rattle.reading.proofs.Local.{value-below, value-above, half-below, half-above}
 use Rattle.tables.specs.Figures.{figureOf, figureAt, centralMeridian, falseEasting, firstLatitude, y0Of, figureHalf, y0At, y0Half, hAt, hHalf, vAt, vHalf, aAt, aHalf, bAt, bHalf, cAt, cHalf, pAt, pHalf, mAt, mHalf, dAt, dHalf, kAt, kHalf}
@@ -15,6 +15,7 @@ use Rattle.extent.specs.Extent.{fromFirst, latitudeKnown, lOf, sizeKnown, longi
 
 pub record Beside (s t : List ℕ) (r : ℕ) : Type 0 where
   pub rows : (kind : ℕ) → 1 ≤ kind → kind ≤ lastKind → rowsOf t kind ≡ rowsOf s kind
+  pub steps : (kind : ℕ) → 1 ≤ kind → kind ≤ lastKind → stepOf t kind ≡ stepOf s kind
   pub bodies : (kind : ℕ) → 1 ≤ kind → kind ≤ lastKind → (kind ≡ latitude → ⊥) → bodyOf t kind ≡ bodyOf s kind
   pub minute : figureOf t latitude 0 0 ≡ figureOf s latitude 0 0
   pub y0 : (i : ℕ) → (i ≡ r → ⊥) → figureOf t latitude 1 i ≡ figureOf s latitude 1 i
@@ -24,7 +25,7 @@ pub record Beside (s t : List ℕ) (r : ℕ) : Type 0 where
 
 -- A latitude's distance d from row 0 is at or below the row before r, or at or above the row after it.
 abbrev pub Outside : ℕ → ℕ → Type 0
-Outside r d = ((0 < r) × (d ≤ (r - 1) * stepOf latitude)) ⊎ ((r + 1) * stepOf latitude ≤ d)
+Outside r d = ((0 < r) × (d ≤ (r - 1) * oneMinute)) ⊎ ((r + 1) * oneMinute ≤ d)
 
 module _ (s t : List ℕ) (r : ℕ) (same : Beside s t r) where
   -- ---- the figures of a body that stays
@@ -33,13 +34,17 @@ module _ (s t : List ℕ) (r : ℕ) (same : Beside s t r) where
     figure-same number i = ap (λ (b : List ℕ). column b (widthOf kind) number i) (same .bodies kind l h other)
 
     read-same : (number offset : ℕ) → figureAt t kind number offset ≡ figureAt s kind number offset
-    read-same number offset = ap (λ (b : List ℕ). valueAt (column b (widthOf kind) number) (stepOf kind) offset) (same .bodies kind l h other)
+    read-same number offset =
+        ap (λ (b : List ℕ). valueAt (column b (widthOf kind) number) (stepOf t kind) offset) (same .bodies kind l h other)
+        ∙ ap (λ (n : ℕ). valueAt (figureOf s kind number) n offset) (same .steps kind l h)
 
     half-same : (number offset : ℕ) → figureHalf t kind number offset ≡ figureHalf s kind number offset
-    half-same number offset = ap (λ (b : List ℕ). valueHalf (column b (widthOf kind) number) (stepOf kind) offset) (same .bodies kind l h other)
+    half-same number offset =
+        ap (λ (b : List ℕ). valueHalf (column b (widthOf kind) number) (stepOf t kind) offset) (same .bodies kind l h other)
+        ∙ ap (λ (n : ℕ). valueHalf (figureOf s kind number) n offset) (same .steps kind l h)
 
-    within-same : (x : ℤ) → withinRows (rowsOf t kind) (stepOf kind) x ≡ withinRows (rowsOf s kind) (stepOf kind) x
-    within-same x = ap (λ (n : ℕ). withinRows n (stepOf kind) x) (same .rows kind l h)
+    within-same : (x : ℤ) → withinRows (rowsOf t kind) (stepOf t kind) x ≡ withinRows (rowsOf s kind) (stepOf s kind) x
+    within-same x = rw (same .rows kind l h, same .steps kind l h)
 
   pub latitude-rows : rowsOf t latitude ≡ rowsOf s latitude
   latitude-rows = same .rows latitude (lit≤ tt) (lit≤ tt)
@@ -104,7 +109,7 @@ module _ (s t : List ℕ) (r : ℕ) (same : Beside s t r) where
   -- ---- where a point stands
   pub first-same : firstLatitude t ≡ firstLatitude s
   unfolding firstLatitude
-  first-same = ap (λ (m : ℤ). m *ℤ pos (stepOf latitude)) (same .minute)
+  first-same = ap (λ (m : ℤ). m *ℤ pos oneMinute) (same .minute)
 
   pub from-first-same : (north : ℤ) → fromFirst t north ≡ fromFirst s north
   unfolding fromFirst
@@ -148,12 +153,12 @@ module _ (s t : List ℕ) (r : ℕ) (same : Beside s t r) where
   y0-row-same i h = same .y0 i h
 
   module _ (d : ℕ) (outside : Outside r d) where
-    column-same : (f g : ℕ → ℤ) → ((i : ℕ) → (i ≡ r → ⊥) → g i ≡ f i) → valueAt g (stepOf latitude) d ≡ valueAt f (stepOf latitude) d
+    column-same : (f g : ℕ → ℤ) → ((i : ℕ) → (i ≡ r → ⊥) → g i ≡ f i) → valueAt g oneMinute d ≡ valueAt f oneMinute d
     column-same f g rows = pick outside
       where
-        pick : Outside r d → valueAt g (stepOf latitude) d ≡ valueAt f (stepOf latitude) d
-        pick (inl low) = value-below f g (stepOf latitude) r (lit< tt) rows d (low .0) (low .1)
-        pick (inr high) = value-above f g (stepOf latitude) r (lit< tt) rows d high
+        pick : Outside r d → valueAt g oneMinute d ≡ valueAt f oneMinute d
+        pick (inl low) = value-below f g oneMinute r (lit< tt) rows d (low .0) (low .1)
+        pick (inr high) = value-above f g oneMinute r (lit< tt) rows d high
 
     pub y0-same : y0At t d ≡ y0At s d
     unfolding y0At
@@ -171,12 +176,12 @@ module _ (s t : List ℕ) (r : ℕ) (same : Beside s t r) where
     unfolding aAt
     a-same = column-same (figureOf s latitude 7) (figureOf t latitude 7) (same .a)
 
-    mark-same : (f g : ℕ → ℤ) → ((i : ℕ) → (i ≡ r → ⊥) → g i ≡ f i) → valueHalf g (stepOf latitude) d ≡ valueHalf f (stepOf latitude) d
+    mark-same : (f g : ℕ → ℤ) → ((i : ℕ) → (i ≡ r → ⊥) → g i ≡ f i) → valueHalf g (oneMinute) d ≡ valueHalf f (oneMinute) d
     mark-same f g rows = pick outside
       where
-        pick : Outside r d → valueHalf g (stepOf latitude) d ≡ valueHalf f (stepOf latitude) d
-        pick (inl low) = half-below f g (stepOf latitude) r (lit< tt) rows d (low .0) (low .1)
-        pick (inr high) = half-above f g (stepOf latitude) r (lit< tt) rows d high
+        pick : Outside r d → valueHalf g (oneMinute) d ≡ valueHalf f (oneMinute) d
+        pick (inl low) = half-below f g (oneMinute) r (lit< tt) rows d (low .0) (low .1)
+        pick (inr high) = half-above f g (oneMinute) r (lit< tt) rows d high
 
     pub y0-half-same : y0Half t d ≡ y0Half s d
     unfolding y0Half

@@ -9,7 +9,7 @@ use native.Mathlib.Omega.{arith}
 use lib.IntN.{ℤ, pos, negℤ, natAbs, _+ℤ_, _-ℤ_, _*ℤ_, +ℤ-assoc, +ℤ-invl, +ℤ-idl, +ℤ-negℤ-cancel}
 use Rattle.figures.proofs.Sizes.{pos-minus, subℕ-le, subℕ-lt}
 use Rattle.figures.proofs.Ring.{difference-times}
-use Rattle.entries.specs.Layout.{latitude, stepOf}
+use Rattle.entries.specs.Layout.{latitude, oneMinute}
 use Rattle.entries.specs.Entries.{rowsOf, bodyOf}
 use Rattle.rows.specs.Rows.{rowAt}
 use Rattle.bodies.specs.Check.{checkOf}
@@ -59,19 +59,19 @@ module _ (s : List ℕ) (ok : checkOf s .number ≡ 0) where
     unfolding fromFirstMinute
     minute-is = row-size b n minute has .is
 
-    pub far-outside : (north : ℤ) → latitudeKnown s north ≡ true → stepOf latitude ≤ natAbs (north -ℤ minute *ℤ pos (stepOf latitude)) → Outside r (natAbs (fromFirst s north))
+    pub far-outside : (north : ℤ) → latitudeKnown s north ≡ true → oneMinute ≤ natAbs (north -ℤ minute *ℤ pos oneMinute) → Outside r (natAbs (fromFirst s north))
     unfolding fromFirst firstLatitude
     far-outside north known far =
         let d = natAbs (fromFirst s north) in
-        let step = pos (stepOf latitude) in
+        let step = pos oneMinute in
         let first = rowAt b 0 .minute in
         let there : north -ℤ first *ℤ step ≡ pos d = latitude-reach s north known .is in
-        let same : north -ℤ minute *ℤ step ≡ pos d -ℤ pos (r * stepOf latitude) =
+        let same : north -ℤ minute *ℤ step ≡ pos d -ℤ pos (r * oneMinute) =
         sym (less-both north (minute *ℤ step) (first *ℤ step))
         ∙ ap (λ (x : ℤ). (north -ℤ first *ℤ step) -ℤ x) (sym (difference-times minute first step) ∙ ap (λ (x : ℤ). x *ℤ step) minute-is)
-        ∙ ap (λ (x : ℤ). x -ℤ pos (r * stepOf latitude)) there in
-        by-side d (apart d (r * stepOf latitude) (stepOf latitude) (rw same at far))
+        ∙ ap (λ (x : ℤ). x -ℤ pos (r * oneMinute)) there in
+        by-side d (apart d (r * oneMinute) oneMinute (rw same at far))
       where
-        by-side : (d : ℕ) → (d + stepOf latitude ≤ r * stepOf latitude) ⊎ (r * stepOf latitude + stepOf latitude ≤ d) → Outside r d
+        by-side : (d : ℕ) → (d + oneMinute ≤ r * oneMinute) ⊎ (r * oneMinute + oneMinute ≤ d) → Outside r d
         by-side d (inl low) = inl (omega arith, omega arith)
         by-side d (inr high) = inr (omega arith)

@@ -10,6 +10,7 @@ use lib.IntN.{pos}
 use lib.ListN.{length}
 use Rattle.figures.proofs.Tests.{both}
 use Rattle.words.proofs.Refusals.{where-below, where-beyond}
+use Rattle.entries.specs.Layout.{latitude, rowBytes}
 use Rattle.rules.specs.declared.Figures.{Figures}
 use Rattle.rules.specs.declared.Differences.{Differences}
 use Rattle.rules.specs.Limits.{inRange}
@@ -31,7 +32,7 @@ same-as-itself d = rw (same-self (d .y), same-self (d .h), same-self (d .v))
 both-hold : {p q : Bool} → p ≡ true → q ≡ true → (p && q) ≡ true
 both-hold e h = rw (e, h)
 
-module _ (b : List ℕ) (n r : ℕ) (f : Figures) (long : 32 * n ≤ length b) (there : r < n) where
+module _ (b : List ℕ) (n r : ℕ) (f : Figures) (long : rowBytes latitude * n ≤ length b) (there : r < n) where
   abbrev new : List ℕ
   new = rewritten b n r f
 

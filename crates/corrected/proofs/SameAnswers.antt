@@ -16,7 +16,8 @@ use Rattle.figures.proofs.Rounding.{nearestSize-most}
 use Rattle.figures.proofs.Halves.{multiple-no-half}
 use Rattle.words.specs.Ladder.{need, whereBelow}
 use Rattle.words.proofs.Refusals.{where-below, where-beyond}
-use Rattle.entries.specs.Layout.{latitude, stepOf}
+use Rattle.rules.specs.Latitude.{leastRise, mostRise}
+use Rattle.entries.specs.Layout.{latitude, oneMinute}
 use Rattle.entries.specs.Entries.{rowsOf}
 use Rattle.bodies.specs.Check.{checkOf}
 use Rattle.row_search.specs.Rows.{Rising}
@@ -156,19 +157,19 @@ module _ (s : List ℕ) (ok : checkOf s .number ≡ 0) (z : ℤ) (known : reduce
   gap = natAbs (y0Of s (row + 1) -ℤ y0Of s row)
 
   -- at most what k is of the whole, where that much of the gap is past
-  seconds-most : (k : ℕ) → (row + 1 < n → stepOf latitude * past ≤ k * gap) → secondsPast s z row ≤ k
+  seconds-most : (k : ℕ) → (row + 1 < n → oneMinute * past ≤ k * gap) → secondsPast s z row ≤ k
   unfolding secondsPast seconds
   seconds-most k h = pick (decLt (row + 1) n)
     where
-      pick : Dec (row + 1 < n) → whereBelow (row + 1) n (nearestSize (stepOf latitude * past) gap) 0 ≤ k
+      pick : Dec (row + 1 < n) → whereBelow (row + 1) n (nearestSize (oneMinute * past) gap) 0 ≤ k
       pick (yes l) =
-          rw (where-below (row + 1) n (nearestSize (stepOf latitude * past) gap) 0 l)
-          (nearestSize-most (stepOf latitude * past) gap k (omega (arith, past-gap s ok z known l)) (h l))
-      pick (no l) = rw (where-beyond (row + 1) n (nearestSize (stepOf latitude * past) gap) 0 (omega arith)) (omega arith)
+          rw (where-below (row + 1) n (nearestSize (oneMinute * past) gap) 0 l)
+          (nearestSize-most (oneMinute * past) gap k (omega (arith, past-gap s ok z known l)) (h l))
+      pick (no l) = rw (where-beyond (row + 1) n (nearestSize (oneMinute * past) gap) 0 (omega arith)) (omega arith)
 
   -- never more than a minute
-  minute-most : secondsPast s z row ≤ stepOf latitude
-  minute-most = seconds-most (stepOf latitude) (λ l. omega (arith, past-gap s ok z known l))
+  minute-most : secondsPast s z row ≤ oneMinute
+  minute-most = seconds-most oneMinute (λ l. omega (arith, past-gap s ok z known l))
 
   -- and none at the row itself
   none-past : z ≡ y0Of s row → secondsPast s z row ≡ 0
@@ -186,10 +187,10 @@ module _ (s : List ℕ) (ok : checkOf s .number ≡ 0) (z : ℤ) (known : reduce
       zero-past = ap natAbs (ap (λ (x : ℤ). x -ℤ y0Of s (rowOf s z)) e ∙ +ℤ-invr (y0Of s (rowOf s z)))
 
       pick : Dec (rowOf s z + 1 < rowsOf s latitude)
-          → whereBelow (rowOf s z + 1) (rowsOf s latitude) (onHalfSize (stepOf latitude * natAbs (z -ℤ y0Of s (rowOf s z))) (natAbs (y0Of s (rowOf s z + 1) -ℤ y0Of s (rowOf s z)))) false ≡ false
+          → whereBelow (rowOf s z + 1) (rowsOf s latitude) (onHalfSize (oneMinute * natAbs (z -ℤ y0Of s (rowOf s z))) (natAbs (y0Of s (rowOf s z + 1) -ℤ y0Of s (rowOf s z)))) false ≡ false
       pick (yes l) =
           where-below (rowOf s z + 1) (rowsOf s latitude) _ false l
-          ∙ no-half-zero (stepOf latitude * natAbs (z -ℤ y0Of s (rowOf s z))) (natAbs (y0Of s (rowOf s z + 1) -ℤ y0Of s (rowOf s z))) (omega (arith, zero-past)) (omega (arith, past-gap s ok z known l))
+          ∙ no-half-zero (oneMinute * natAbs (z -ℤ y0Of s (rowOf s z))) (natAbs (y0Of s (rowOf s z + 1) -ℤ y0Of s (rowOf s z))) (omega (arith, zero-past)) (omega (arith, past-gap s ok z known l))
       pick (no l) = where-beyond (rowOf s z + 1) (rowsOf s latitude) _ false (omega arith)
 
 module _ (s t : List ℕ) (r : ℕ) (same : Beside s t r) (there : r < rowsOf s latitude) (ok : checkOf s .number ≡ 0) (ok′ : checkOf t .number ≡ 0) where
@@ -197,10 +198,10 @@ module _ (s t : List ℕ) (r : ℕ) (same : Beside s t r) (there : r < rowsOf s 
   rows = rowsOf s latitude
 
   up : Rising (y0Of s) rows
-  up = rises-rising (y0Of s) rows 600_000 615_000 (y0-rises s ok) (lit< tt)
+  up = rises-rising (y0Of s) rows leastRise mostRise (y0-rises s ok) (lit< tt)
 
   up′ : Rising (y0Of t) rows
-  up′ = rw (latitude-rows s t r same) at (rises-rising (y0Of t) (rowsOf t latitude) 600_000 615_000 (y0-rises t ok′) (lit< tt))
+  up′ = rw (latitude-rows s t r same) at (rises-rising (y0Of t) (rowsOf t latitude) leastRise mostRise (y0-rises t ok′) (lit< tt))
 
   module _ (z : ℤ) (aside : Aside (y0Of s) rows r z) where
     first-test : leZ (y0Of t 0) z ≡ leZ (y0Of s 0) z
@@ -283,10 +284,10 @@ module _ (s t : List ℕ) (r : ℕ) (same : Beside s t r) (there : r < rowsOf s 
       unfolding distanceOf
       outside = by-side aside
         where
-          by-side : Aside (y0Of s) rows r z → Outside r (rowOf s z * stepOf latitude + secondsPast s z (rowOf s z))
+          by-side : Aside (y0Of s) rows r z → Outside r (rowOf s z * oneMinute + secondsPast s z (rowOf s z))
           by-side (inl low) = inl (low .0, pick (ℕ-discrete (rowOf s z + 1) r))
             where
-              pick : Dec (rowOf s z + 1 ≡ r) → rowOf s z * stepOf latitude + secondsPast s z (rowOf s z) ≤ (r - 1) * stepOf latitude
+              pick : Dec (rowOf s z + 1 ≡ r) → rowOf s z * oneMinute + secondsPast s z (rowOf s z) ≤ (r - 1) * oneMinute
               pick (yes e) = omega (arith, touching e (low .1) .1)
               pick (no p) = omega (arith, below low, minute-most s ok z known)
           by-side (inr high) = inr (omega (arith, above high))

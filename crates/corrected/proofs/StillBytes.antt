@@ -5,7 +5,7 @@ use mathlib.Core.List.{List}
 use Prim.Native.Nat.{ℕ, _+_, _-_, _*_, _/_, _%_, _<_, _≤_}
 use native.Mathlib.Decide.{ℕ-discrete, decLt}
 use native.Mathlib.Omega.{arith}
-use lib.Dec.{lit<, lit≤}
+use lib.Dec.{lit<}
 use lib.IntN.{ℤ}
 use lib.ListN.{length, drop, getD, set, length-set, List·getD-eq-default}
 use lib.Seq.{getD-set-same, getD-set-other, getD-take, getD-drop}
@@ -17,17 +17,16 @@ use Rattle.words.specs.Parts.{partOf, putPart}
 use Rattle.words.proofs.Refusals.{where-below, where-beyond}
 use Rattle.words.proofs.TwosComplement.{bits32-small}
 use Rattle.words.proofs.PuttingParts.{before-part, after-part, part-put}
-use Rattle.entries.specs.Layout.{latitude}
+use Rattle.entries.specs.Layout.{latitude, widthOf, rowBytes}
 use Rattle.entries.specs.Entries.{startOf, rowsOf, bodyOf}
 use Rattle.contents.specs.Contents.{contentsOf}
 use Rattle.rules.specs.declared.Figures.{Figures}
-use Rattle.rules.specs.declared.Differences.{Differences}
 use Rattle.rules.specs.Latitude.{figuresInRange, differencesOf, noDifferences}
 use Rattle.rows.specs.Rows.{figuresAt}
 use Rattle.rows.proofs.PassingRows.{LatitudeRow}
 use Rattle.bodies.specs.Check.{checkOf}
 use Rattle.bodies.proofs.Sound.{passes-sound, latitude-rows}
-use Rattle.tables.proofs.Parts.{contents-none}
+use Rattle.bodies.proofs.Known.{contents-none}
 use Rattle.judge.specs.Judge.{boundBefore, boundAfter}
 use Rattle.correct.specs.Correction.{putFigures, putDifferences, workedAt, reworked, rewritten, withRow}
 use Rattle.correct.proofs.RowWords.{FiguresFit, DifferencesFit, figures-fit, differences-fit, none-fit, figures-elsewhere, figures-put, figures-by-differences}
@@ -63,7 +62,7 @@ unfolding reworked putDifferences
 reworked-bytes x n i bytes fit = put-bytes _ _ _ (put-bytes _ _ _ (put-bytes x _ _ bytes (fit .y)) (fit .h)) (fit .v)
 
 -- ---- the body
-module _ (b : List ℕ) (n r : ℕ) (f : Figures) (long : 32 * n ≤ length b) (there : r < n) (rows : (i : ℕ) → i < n → LatitudeRow b n i) (range : figuresInRange f ≡ true)
+module _ (b : List ℕ) (n r : ℕ) (f : Figures) (long : rowBytes latitude * n ≤ length b) (there : r < n) (rows : (i : ℕ) → i < n → LatitudeRow b n i) (range : figuresInRange f ≡ true)
     (before : boundBefore b r f ≡ true) (after : boundAfter b n r f ≡ true) where
   abbrev new : List ℕ
   new = rewritten b n r f
@@ -117,32 +116,33 @@ module _ (s : List ℕ) (ok : checkOf s .number ≡ 0) (r : ℕ) (f : Figures) (
   z : contentsOf s .number ≡ 0
   z = contents-none s ok
 
-  byte-of : (u : List ℕ) (q : ℕ) → q < 4 * (n * 8) → getD (partOf u a (n * 8)) q 0 ≡ getD u (4 * a + q) 0
-  byte-of u q h = getD-take (4 * (n * 8)) (drop (4 * a) u) q 0 h ∙ getD-drop (4 * a) u q 0
+  byte-of : (u : List ℕ) (q : ℕ) → q < 4 * (n * widthOf latitude) → getD (partOf u a (n * widthOf latitude)) q 0 ≡ getD u (4 * a + q) 0
+  byte-of u q h = getD-take (4 * (n * widthOf latitude)) (drop (4 * a) u) q 0 h ∙ getD-drop (4 * a) u q 0
 
   old-bytes : Bytes s → Bytes (bodyOf s latitude)
-  old-bytes bytes = record { byte = λ q. pick q (decLt q (4 * (n * 8))) }
+  unfolding bodyOf
+  old-bytes bytes = record { byte = λ q. pick q (decLt q (4 * (n * widthOf latitude))) }
     where
-      pick : (q : ℕ) → Dec (q < 4 * (n * 8)) → getD (bodyOf s latitude) q 0 < 256
+      pick : (q : ℕ) → Dec (q < 4 * (n * widthOf latitude)) → getD (bodyOf s latitude) q 0 < 256
       pick q (yes h) = rw (byte-of s q h) (bytes .byte (4 * a + q))
       pick q (no h) = rw (List·getD-eq-default (bodyOf s latitude) 0 {n = q} (omega (arith, body-long s z r f))) (lit< tt)
 
   pub still-bytes : figuresInRange f ≡ true → boundBefore (bodyOf s latitude) r f ≡ true → boundAfter (bodyOf s latitude) n r f ≡ true → ((q : ℕ) → getD s q 0 < 256) → (q : ℕ) → getD (withRow s r f) q 0 < 256
   unfolding withRow
-  still-bytes range before after bytes q = pick (decLt q (4 * a)) (decLt q (4 * (a + n * 8)))
+  still-bytes range before after bytes q = pick (decLt q (4 * a)) (decLt q (4 * (a + n * widthOf latitude)))
     where
       put : List ℕ
       put = rewritten (bodyOf s latitude) n r f
 
-      inside : (j : ℕ) → 4 * a + j ≡ q → j < 4 * (n * 8) → getD (putPart s a (n * 8) put) q 0 < 256
+      inside : (j : ℕ) → 4 * a + j ≡ q → j < 4 * (n * widthOf latitude) → getD (putPart s a (n * widthOf latitude) put) q 0 < 256
       inside j e h =
-          let read : getD (putPart s a (n * 8) put) q 0 ≡ getD put j 0 =
-          ap (λ (k : ℕ). getD (putPart s a (n * 8) put) k 0) (sym e)
-          ∙ sym (byte-of (putPart s a (n * 8) put) j h)
-          ∙ ap (λ (u : List ℕ). getD u j 0) (part-put s put a (n * 8) (within s z r f) (whole s z r f)) in
+          let read : getD (putPart s a (n * widthOf latitude) put) q 0 ≡ getD put j 0 =
+          ap (λ (k : ℕ). getD (putPart s a (n * widthOf latitude) put) k 0) (sym e)
+          ∙ sym (byte-of (putPart s a (n * widthOf latitude) put) j h)
+          ∙ ap (λ (u : List ℕ). getD u j 0) (part-put s put a (n * widthOf latitude) (within s z r f) (whole s z r f)) in
           rw read (body-bytes (bodyOf s latitude) n r f (omega (arith, body-long s z r f)) there (latitude-rows s (passes-sound s ok)) range before after (old-bytes (record { byte = bytes })) .byte j)
 
-      pick : Dec (q < 4 * a) → Dec (q < 4 * (a + n * 8)) → getD (putPart s a (n * 8) put) q 0 < 256
-      pick (yes h) k = rw (before-part s put a (n * 8) (within s z r f) (whole s z r f) q h) (bytes q)
-      pick (no h) (no k) = rw (after-part s put a (n * 8) (within s z r f) (whole s z r f) q (omega arith)) (bytes q)
+      pick : Dec (q < 4 * a) → Dec (q < 4 * (a + n * widthOf latitude)) → getD (putPart s a (n * widthOf latitude) put) q 0 < 256
+      pick (yes h) k = rw (before-part s put a (n * widthOf latitude) (within s z r f) (whole s z r f) q h) (bytes q)
+      pick (no h) (no k) = rw (after-part s put a (n * widthOf latitude) (within s z r f) (whole s z r f) q (omega arith)) (bytes q)
       pick (no h) (yes k) = inside (q - 4 * a) (omega arith) (omega arith)

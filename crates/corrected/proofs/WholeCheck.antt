@@ -9,7 +9,7 @@ use native.Mathlib.Omega.{arith}
 use lib.Dec.{lit≤}
 use lib.ListN.{length}
 use Rattle.words.specs.Ladder.{whereIs}
-use Rattle.entries.specs.Layout.{latitude, lastKind}
+use Rattle.entries.specs.Layout.{latitude, lastKind, rowBytes}
 use Rattle.entries.specs.Entries.{rowsOf, bodyOf}
 use Rattle.contents.specs.Contents.{verdict, contentsOf}
 use Rattle.rules.specs.declared.Figures.{Figures}
@@ -18,7 +18,7 @@ use Rattle.rows.specs.Rows.{latitudeFault}
 use Rattle.rows.proofs.PassingRows.{LatitudeRow, latitude-passes}
 use Rattle.bodies.specs.Check.{rowFault, checkOf}
 use Rattle.bodies.proofs.Sound.{passes-sound, sound-passes, latitude-rows}
-use Rattle.tables.proofs.Parts.{contents-none}
+use Rattle.bodies.proofs.Known.{contents-none}
 use Rattle.judge.specs.Judge.{boundBefore, boundAfter}
 use Rattle.correct.specs.Correction.{rewritten, withRow}
 use Rattle.correct.proofs.RowWords.{FiguresFit}
@@ -38,7 +38,7 @@ module _ (s : List ℕ) (ok : checkOf s .number ≡ 0) (r : ℕ) (f : Figures) (
   z : contentsOf s .number ≡ 0
   z = contents-none s ok
 
-  long : 32 * n ≤ length b
+  long : rowBytes latitude * n ≤ length b
   long = omega (arith, body-long s z r f)
 
   same-rows : rowsOf t latitude ≡ n

@@ -11,10 +11,10 @@ use Rattle.words.specs.Words.{unsignedAt}
 use Rattle.words.specs.Parts.{partOf}
 use Rattle.words.proofs.PuttingParts.{length-putPart, part-put, part-before, part-after, word-before}
 use Rattle.entries.specs.Layout.{latitude, lastKind, firstBody, widthOf}
-use Rattle.entries.specs.Entries.{startOf, rowsOf, bodyOf}
+use Rattle.entries.specs.Entries.{formOf, startOf, rowsOf, stepOf, bodyOf}
 use Rattle.contents.specs.Contents.{contentsOf}
-use Rattle.contents.proofs.Passing.{its-entry, body-after, body-within, body-length}
-use Rattle.corrected.proofs.SameContents.{same-contents, start-same, rows-same}
+use Rattle.contents.proofs.Passing.{its-entry, there, body-after, body-within, body-length}
+use Rattle.corrected.proofs.SameContents.{same-contents, start-same, rows-same, step-same}
 use Rattle.corrected.proofs.Apart.{bodies-apart}
 use Rattle.rules.specs.declared.Figures.{Figures}
 use Rattle.correct.specs.Correction.{rewritten, withRow}
@@ -33,48 +33,52 @@ module _ (s : List ℕ) (z : contentsOf s .number ≡ 0) (r : ℕ) (f : Figures)
   abbrev new : List ℕ
   new = rewritten b n r f
 
-  pub within : 4 * (a + n * 8) ≤ length s
+  pub within : 4 * (a + n * widthOf latitude) ≤ length s
   within = body-within s z latitude (lit≤ tt) (lit≤ tt)
 
-  pub body-long : length b ≡ 4 * (n * 8)
+  pub body-long : length b ≡ 4 * (n * widthOf latitude)
   body-long = body-length s z latitude (lit≤ tt) (lit≤ tt)
 
-  pub whole : length new ≡ 4 * (n * 8)
+  pub whole : length new ≡ 4 * (n * widthOf latitude)
   whole = length-rewritten b n r f ∙ body-long
 
   pub length-stays : length (withRow s r f) ≡ length s
   unfolding withRow
-  length-stays = length-putPart s new a (n * 8) within whole
+  length-stays = length-putPart s new a (n * widthOf latitude) within whole
 
   -- ---- the contents
-  word-stays : (i : ℕ) → i < firstBody → unsignedAt (withRow s r f) i ≡ unsignedAt s i
+  word-stays : (i : ℕ) → i < firstBody (formOf s) → unsignedAt (withRow s r f) i ≡ unsignedAt s i
   unfolding withRow
-  word-stays i h = word-before s new a (n * 8) within whole i (le-trans h (body-after s z latitude (lit≤ tt) (lit≤ tt)))
+  word-stays i h = word-before s new a (n * widthOf latitude) within whole i (le-trans h (body-after s z latitude (lit≤ tt) (lit≤ tt)))
 
   pub contents-stay : contentsOf (withRow s r f) ≡ contentsOf s
   contents-stay = same-contents s (withRow s r f) word-stays length-stays
 
   module _ (kind : ℕ) (l : 1 ≤ kind) (h : kind ≤ lastKind) where
     start-stays : startOf (withRow s r f) kind ≡ startOf s kind
-    start-stays = start-same s (withRow s r f) word-stays kind (its-entry s z kind l h .0)
+    start-stays = start-same s (withRow s r f) word-stays kind (its-entry s z kind l (there s z kind l h) .0)
 
     pub rows-stay : rowsOf (withRow s r f) kind ≡ rowsOf s kind
-    rows-stay = rows-same s (withRow s r f) word-stays kind (its-entry s z kind l h .0)
+    rows-stay = rows-same s (withRow s r f) word-stays kind (its-entry s z kind l (there s z kind l h) .0)
+
+    pub step-stays : stepOf (withRow s r f) kind ≡ stepOf s kind
+    step-stays = step-same s (withRow s r f) word-stays kind (its-entry s z kind l (there s z kind l h) .0)
 
     body-is : bodyOf (withRow s r f) kind ≡ partOf (withRow s r f) (startOf s kind) (rowsOf s kind * widthOf kind)
+    unfolding bodyOf
     body-is = rw (start-stays, rows-stay)
 
     -- ---- every other body
     pub body-stays : (kind ≡ latitude → ⊥) → bodyOf (withRow s r f) kind ≡ bodyOf s kind
-    unfolding withRow
+    unfolding withRow bodyOf
     body-stays other = body-is ∙ by-side (bodies-apart s z kind latitude l h (lit≤ tt) (lit≤ tt) other)
       where
-        by-side : (startOf s kind + rowsOf s kind * widthOf kind ≤ a) ⊎ (a + n * 8 ≤ startOf s kind)
+        by-side : (startOf s kind + rowsOf s kind * widthOf kind ≤ a) ⊎ (a + n * widthOf latitude ≤ startOf s kind)
             → partOf (withRow s r f) (startOf s kind) (rowsOf s kind * widthOf kind) ≡ bodyOf s kind
-        by-side (inl before) = part-before s new a (n * 8) within whole (startOf s kind) (rowsOf s kind * widthOf kind) before
-        by-side (inr after) = part-after s new a (n * 8) within whole (startOf s kind) (rowsOf s kind * widthOf kind) after
+        by-side (inl before) = part-before s new a (n * widthOf latitude) within whole (startOf s kind) (rowsOf s kind * widthOf kind) before
+        by-side (inr after) = part-after s new a (n * widthOf latitude) within whole (startOf s kind) (rowsOf s kind * widthOf kind) after
 
   -- ---- the latitude body
   pub latitude-body : bodyOf (withRow s r f) latitude ≡ rewritten b n r f
   unfolding withRow
-  latitude-body = body-is latitude (lit≤ tt) (lit≤ tt) ∙ part-put s new a (n * 8) within whole
+  latitude-body = body-is latitude (lit≤ tt) (lit≤ tt) ∙ part-put s new a (n * widthOf latitude) within whole

@@ -8,11 +8,8 @@ use lib.IntN.{ℤ}
 use Rattle.figures.proofs.Tests.{both}
 use Rattle.words.specs.Words.{wordAt}
 use Rattle.words.specs.Ladder.{need}
-use Rattle.words.proofs.PartWords.{part-is}
-use Rattle.entries.specs.declared.Place.{Place}
 use Rattle.entries.specs.Layout.{latitude, widthOf}
-use Rattle.entries.specs.Entries.{rowsOf, bodyOf, placeOf}
-use Rattle.tables.proofs.Parts.{cut}
+use Rattle.entries.specs.Entries.{rowsOf, bodyOf}
 use Rattle.rules.specs.declared.Figures.{Figures}
 use Rattle.rules.specs.Limits.{sameAs}
 use Rattle.rules.proofs.Ranges.{same-true}
@@ -21,7 +18,7 @@ use Rattle.judge.specs.Judge.{namedRow, hasRow}
 use Rattle.differing.specs.Differing.{sameFigures, rowDiffers, differsAt, isDiffering}
 
 -- ---- one row: t is the test of its minute
-module _ (b c : List ℕ) (m i : ℕ) (minute : ℤ) (e : minute ≡ wordAt b (8 * i)) (t : Bool) (h : t ≡ hasRow c m minute) where
+module _ (b c : List ℕ) (m i : ℕ) (minute : ℤ) (e : minute ≡ wordAt b (widthOf latitude * i)) (t : Bool) (h : t ≡ hasRow c m minute) where
   pub not-there : not t ≡ true → true ≡ rowDiffers b c m i
   unfolding rowDiffers need
   not-there n = rw (← e, ← h, not-true t n)
@@ -44,20 +41,10 @@ module _ (b : List ℕ) (n : ℕ) (c : List ℕ) (m : ℕ) (minute minute′ : �
   of-row e i r k q = q ∙ rw (← same, ← h, not-false t e, k)
 
 -- ---- of two sheets: the bodies as they are lent
-module _ (s : List ℕ) (p : Place) (width : ℕ) (e : p ≡ placeOf s latitude) (w : width ≡ widthOf latitude) where
-  abbrev lent : List ℕ
-  lent = cut s (p .start) (p .rows * width)
-
-  lent-is : lent ≡ bodyOf s latitude
-  lent-is = part-is s (p .start) (p .rows * width) ∙ rw (e, w)
-
-  module _ (minute minute′ : ℤ) (same : minute′ ≡ minute) (r : Bool) where
-    pub beside : (b : List ℕ) (n : ℕ) → r ≡ differsAt b n lent (p .rows) minute′ → r ≡ differsAt b n (bodyOf s latitude) (rowsOf s latitude) minute
-    beside b n q = q ∙ rw (lent-is, same, e)
-
-    pub between : (t : List ℕ) → r ≡ differsAt lent (p .rows) (bodyOf t latitude) (rowsOf t latitude) minute′ → r ≡ isDiffering s t minute
-    unfolding isDiffering
-    between t q = q ∙ rw (lent-is, same, e)
+pub of-sheets : (s t b c : List ℕ) (n m : ℕ) (minute minute′ : ℤ) (r : Bool) → b ≡ bodyOf s latitude → n ≡ rowsOf s latitude → c ≡ bodyOf t latitude → m ≡ rowsOf t latitude
+    → minute′ ≡ minute → r ≡ differsAt b n c m minute′ → r ≡ isDiffering s t minute
+unfolding isDiffering
+of-sheets s t b c n m minute minute′ r e f g h same q = q ∙ rw (e, f, g, h, same)
 
 -- ---- the test of two rows' figures is that they are equal
 pub same-figures : (f g : Figures) → sameFigures f g ≡ true → f ≡ g

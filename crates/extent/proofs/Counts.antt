@@ -1,5 +1,5 @@
 -- The rows and the step of each kind, as a test of the last row asks for them. Assumes nothing.
-use mathlib.Core.Path.{_≡_, ap, _∙_}
+use mathlib.Core.Path.{_≡_, _∙_}
 use mathlib.Core.Bool.{Bool}
 use mathlib.Core.List.{List}
 use Prim.Native.Nat.{ℕ, _-_, _<_, _≤_}
@@ -10,44 +10,49 @@ use lib.IntN.{ℤ}
 use Rattle.figures.specs.Ranges.{mostCount, mostStep}
 use Rattle.entries.specs.declared.Place.{Place}
 use Rattle.entries.specs.declared.Places.{Places}
-use Rattle.entries.specs.Layout.{lastKind, latitude, mostRows, stepOf}
-use Rattle.entries.specs.Entries.{rowsOf, placeOf, placesOf}
-use Rattle.contents.proofs.Passing.{rows-some, rows-most}
+use Rattle.entries.specs.Layout.{lastKind, latitude, mostRows, oneMinute}
+use Rattle.entries.specs.Entries.{rowsOf, stepOf}
 use Rattle.entries.proofs.ByKind.{by-kind}
-use Rattle.bodies.specs.Check.{checkOf}
+use Rattle.contents.specs.Contents.{Placed}
+use Rattle.contents.proofs.Passing.{rows-some, rows-most}
+use Rattle.bodies.specs.Check.{KnownToPass}
+use Rattle.bodies.proofs.Known.{latitude-placed}
 use Rattle.reading.specs.Tables.{withinRows}
-use Rattle.tables.proofs.Parts.{contents-none, step-most}
-use Rattle.tables.proofs.Ranges.{latitude-some}
-use Rattle.tables.proofs.ByName.{latitude-place}
+use Rattle.tables.proofs.Parts.{step-most, place-rows, place-step}
 
-most-small : (kind : ℕ) → 1 ≤ kind → kind ≤ lastKind → mostRows kind ≤ 1_200
-most-small = by-kind (λ (k : ℕ). mostRows k ≤ 1_200) (lit≤ tt) (lit≤ tt) (lit≤ tt) (lit≤ tt) (lit≤ tt) (lit≤ tt)
+-- no kind has more rows than latitude
+most-small : (kind : ℕ) → 1 ≤ kind → kind ≤ lastKind → mostRows kind ≤ mostRows latitude
+most-small = by-kind (λ (k : ℕ). mostRows k ≤ mostRows latitude) (lit≤ tt) (lit≤ tt) (lit≤ tt) (lit≤ tt) (lit≤ tt) (lit≤ tt)
 
-module _ (s : List ℕ) (kind : ℕ) (z : checkOf s .number ≡ 0) (l : 1 ≤ kind) (h : kind ≤ lastKind) where
-  pub count-small : rowsOf s kind ≤ 1_200
-  count-small = le-trans (rows-most s (contents-none s z) kind l h) (most-small kind l h)
+module _ (s : List ℕ) (kind : ℕ) (p : Place) (placed : Placed s kind p) where
+  pub count-some : 0 < p .rows
+  count-some = rw (place-rows s kind p placed) (rows-some s (placed .contents) kind (placed .least) (placed .most))
 
-  module _ (p : Place) (e : p ≡ placeOf s kind) where
-    pub count-some : 0 < p .rows
-    count-some = rw e (rows-some s (contents-none s z) kind l h)
+  pub count-most : p .rows ≤ mostCount
+  count-most =
+      rw (place-rows s kind p placed)
+      (le-trans (rows-most s (placed .contents) kind (placed .least) (placed .most)) (le-trans (most-small kind (placed .least) (placed .most)) (lit≤ tt)))
 
-    pub count-most : p .rows ≤ mostCount
-    count-most = rw e (le-trans count-small (lit≤ tt))
+  pub its-step : p .step ≤ mostStep
+  its-step = rw (place-step s kind p placed) (step-most s (placed .contents) kind (placed .least) (placed .most))
 
-    module _ (step : ℕ) (q : step ≡ stepOf kind) where
-      pub its-step : step ≤ mostStep
-      its-step = rw q (step-most kind l h)
+  pub within-is : (r : Bool) (x y : ℤ) → y ≡ x → r ≡ withinRows (p .rows) (p .step) y → r ≡ withinRows (rowsOf s kind) (stepOf s kind) x
+  within-is r x y same a = a ∙ rw (place-rows s kind p placed, place-step s kind p placed, same)
 
-      pub within-is : (r : Bool) (x y : ℤ) → y ≡ x → r ≡ withinRows (p .rows) step y → r ≡ withinRows (rowsOf s kind) (stepOf kind) x
-      within-is r x y same a = a ∙ rw (e, q, same)
-
--- ---- the latitude body's last row
-module _ (s : List ℕ) (z : checkOf s .number ≡ 0) (p : Places) (e : p ≡ placesOf s) where
+-- ---- the latitude body's rows, a minute apart
+module _ (s : List ℕ) (p : Places) (known : KnownToPass s p) where
   pub count-is : p .latitude .rows ≡ rowsOf s latitude
-  count-is = ap (λ (q : Place). q .rows) (latitude-place s p e)
+  count-is = place-rows s latitude (p .latitude) (latitude-placed s p known)
 
   pub count-one : 1 ≤ p .latitude .rows
-  count-one = rw count-is (latitude-some s z)
+  count-one = count-some s latitude (p .latitude) (latitude-placed s p known)
 
+  pub minutes-few : p .latitude .rows ≤ mostCount
+  minutes-few = count-most s latitude (p .latitude) (latitude-placed s p known)
+
+  pub minutes-is : (r : Bool) (x y : ℤ) → y ≡ x → r ≡ withinRows (p .latitude .rows) oneMinute y → r ≡ withinRows (rowsOf s latitude) oneMinute x
+  minutes-is r x y same a = a ∙ rw (count-is, same)
+
+  -- the last of them
   pub last-there : p .latitude .rows - 1 < rowsOf s latitude
   last-there = omega (arith, count-is, count-one)

@@ -5,8 +5,8 @@ use mathlib.Core.List.{List}
 use Prim.Native.Nat.{ℕ, _-_}
 use lib.IntN.{ℤ, pos, natAbs, _-ℤ_}
 use lib.Signed.{leZ}
-use Rattle.entries.specs.Layout.{latitude, longitude, northing, easting, scale, stepOf}
-use Rattle.entries.specs.Entries.{rowsOf}
+use Rattle.entries.specs.Layout.{latitude, longitude, northing, easting, scale, oneMinute}
+use Rattle.entries.specs.Entries.{rowsOf, stepOf}
 use Rattle.reading.specs.Tables.{withinRows}
 use Rattle.tables.specs.Figures.{centralMeridian, falseEasting, firstLatitude, y0Of}
 
@@ -16,7 +16,7 @@ fromFirst s north = north -ℤ firstLatitude s
 
 -- For 10, "latitude below the first or above the last row". With n rows the last stands n − 1 minutes after the first.
 unfoldable pub latitudeKnown : List ℕ → ℤ → Bool
-latitudeKnown s north = withinRows (rowsOf s latitude) (stepOf latitude) (fromFirst s north)
+latitudeKnown s north = withinRows (rowsOf s latitude) oneMinute (fromFirst s north)
 
 -- "L = central meridian − longitude"
 unfoldable pub lOf : List ℕ → ℤ → ℤ
@@ -24,7 +24,7 @@ lOf s west = centralMeridian s -ℤ west
 
 -- For 11, "the size of L (given, approximate or final) above the last kind 3 row". A size is not negative; none of the three ever is on a sheet that passes.
 unfoldable pub sizeKnown : List ℕ → ℤ → Bool
-sizeKnown s size = withinRows (rowsOf s longitude) (stepOf longitude) size
+sizeKnown s size = withinRows (rowsOf s longitude) (stepOf s longitude) size
 
 -- For 11 of geographic to plane: "longitude outside 0 to 648,000,000, or the size of L (given ..) above the last kind 3 row". "s is the size of L." A longitude within the rows of
 -- kind 3 is never outside 0 to 648,000,000, since a central meridian lies 6,000″ or more from both; so plane to geographic, whose longitude is worked, has no such test.
@@ -37,15 +37,15 @@ xPrime s x = x -ℤ falseEasting s
 
 -- For 12 of plane to geographic: "x′ in size above the last row of kind 5"
 unfoldable pub eastingKnown : List ℕ → ℤ → Bool
-eastingKnown s xp = withinRows (rowsOf s easting) (stepOf easting) (pos (natAbs xp))
+eastingKnown s xp = withinRows (rowsOf s easting) (stepOf s easting) (pos (natAbs xp))
 
 -- For 12 of convergence and scale: "x′ in size above the last row .. of kind 6"
 unfoldable pub scaleKnown : List ℕ → ℤ → Bool
-scaleKnown s xp = withinRows (rowsOf s scale) (stepOf scale) (pos (natAbs xp))
+scaleKnown s xp = withinRows (rowsOf s scale) (stepOf s scale) (pos (natAbs xp))
 
 -- For 13, "y below 0 or above the last kind 4 row"
 unfoldable pub northingKnown : List ℕ → ℤ → Bool
-northingKnown s y = withinRows (rowsOf s northing) (stepOf northing) y
+northingKnown s y = withinRows (rowsOf s northing) (stepOf s northing) y
 
 -- For 14, "reduced northing below the first or above the last y0"
 unfoldable pub reducedKnown : List ℕ → ℤ → Bool

@@ -4,23 +4,23 @@ use entries::Places;
 ghost use mathlib.Core.Path.{_≡_};
 ghost use Prim.Native.Nat.{_≤_};
 ghost use lib.IntN.{natAbs};
-ghost use Rattle.entries.specs.Layout.{lastKind, stepOf};
-ghost use Rattle.entries.specs.Entries.{rowsOf, placeOf, placesOf};
-ghost use Rattle.bodies.specs.Check.{checkOf};
+ghost use Rattle.entries.specs.Entries.{rowsOf, stepOf};
+ghost use Rattle.contents.specs.Contents.{Placed};
+ghost use Rattle.bodies.specs.Check.{KnownToPass};
 ghost use Rattle.reading.specs.Tables.{withinRows};
 ghost use Rattle.extent.specs.Extent.{fromFirst, latitudeKnown, lOf, sizeKnown, longitudeKnown, xPrime, eastingKnown, scaleKnown, northingKnown, reducedKnown};
 
-// Whether z lies from row 0 of the kind's body to its last row.
+// Whether z lies from row 0 of the kind's body to its last row. `place` is that body's.
 fn within(s: &[u8], place: Place, kind: usize, z: i64) -> bool
-    requires { ⌜ (checkOf (now s) .number ≡ 0) × (place ≡ placeOf (now s) kind) × (1 ≤ kind) × (kind ≤ lastKind) ⌝ }
-    ensures { λ r. ⌜ r ≡ withinRows (rowsOf (now (s .entry)) kind) (stepOf kind) z ⌝ }
+    requires { ⌜ Placed (now s) kind place ⌝ }
+    ensures { λ r. ⌜ r ≡ withinRows (rowsOf (now (s .entry)) kind) (stepOf (now (s .entry)) kind) z ⌝ }
 {
-    reading::within_rows(place.rows, entries::step_of(kind), z)
+    reading::within_rows(place.rows, place.step, z)
 }
 
 // The latitude's distance from row 0, in 0.001″.
 pub fn from_first(s: &[u8], p: Places, latitude: i32) -> i64
-    requires { ⌜ (checkOf (now s) .number ≡ 0) × (p ≡ placesOf (now s)) ⌝ }
+    requires { ⌜ KnownToPass (now s) p ⌝ }
     ensures { λ r. ⌜ r ≡ fromFirst (now (s .entry)) latitude ⌝ }
 {
     (latitude as i64) - tables::first_latitude(s, p)
@@ -28,15 +28,19 @@ pub fn from_first(s: &[u8], p: Places, latitude: i32) -> i64
 
 // Whether the latitude lies from the first row to the last.
 pub fn latitude_known(s: &[u8], p: Places, latitude: i32) -> bool
-    requires { ⌜ (checkOf (now s) .number ≡ 0) × (p ≡ placesOf (now s)) ⌝ }
+    requires { ⌜ KnownToPass (now s) p ⌝ }
     ensures { λ r. ⌜ r ≡ latitudeKnown (now (s .entry)) latitude ⌝ }
 {
-    within(s, p.latitude, entries::LATITUDE, from_first(s, p, latitude))
+    reading::within_rows(
+        p.latitude.rows,
+        entries::ONE_MINUTE,
+        from_first(s, p, latitude),
+    )
 }
 
 // L, in 0.001″.
 pub fn l_of(s: &[u8], p: Places, longitude: i32) -> i64
-    requires { ⌜ (checkOf (now s) .number ≡ 0) × (p ≡ placesOf (now s)) ⌝ }
+    requires { ⌜ KnownToPass (now s) p ⌝ }
     ensures { λ r. ⌜ (r ≡ lOf (now (s .entry)) longitude) × (natAbs r ≤ 2_789_483_648) ⌝ }
 {
     tables::central_meridian(s, p) - (longitude as i64)
@@ -44,7 +48,7 @@ pub fn l_of(s: &[u8], p: Places, longitude: i32) -> i64
 
 // Whether a size of L is not above the last kind 3 row.
 pub fn size_known(s: &[u8], p: Places, size: i64) -> bool
-    requires { ⌜ (checkOf (now s) .number ≡ 0) × (p ≡ placesOf (now s)) ⌝ }
+    requires { ⌜ KnownToPass (now s) p ⌝ }
     ensures { λ r. ⌜ r ≡ sizeKnown (now (s .entry)) size ⌝ }
 {
     within(s, p.longitude, entries::LONGITUDE, size)
@@ -52,7 +56,7 @@ pub fn size_known(s: &[u8], p: Places, size: i64) -> bool
 
 // Whether the longitude is one that there is, and its L not above the last kind 3 row.
 pub fn longitude_known(s: &[u8], p: Places, longitude: i32) -> bool
-    requires { ⌜ (checkOf (now s) .number ≡ 0) × (p ≡ placesOf (now s)) ⌝ }
+    requires { ⌜ KnownToPass (now s) p ⌝ }
     ensures { λ r. ⌜ r ≡ longitudeKnown (now (s .entry)) longitude ⌝ }
 {
     let size = figures::size(l_of(s, p, longitude));
@@ -61,7 +65,7 @@ pub fn longitude_known(s: &[u8], p: Places, longitude: i32) -> bool
 
 // x′, in 0.01 ft.
 pub fn x_prime(s: &[u8], p: Places, x: i32) -> i64
-    requires { ⌜ (checkOf (now s) .number ≡ 0) × (p ≡ placesOf (now s)) ⌝ }
+    requires { ⌜ KnownToPass (now s) p ⌝ }
     ensures { λ r. ⌜ (r ≡ xPrime (now (s .entry)) x) × (natAbs r ≤ 2_247_483_648) ⌝ }
 {
     (x as i64) - tables::false_easting(s, p)
@@ -69,7 +73,7 @@ pub fn x_prime(s: &[u8], p: Places, x: i32) -> i64
 
 // Whether x′ in size is not above the last kind 5 row.
 pub fn easting_known(s: &[u8], p: Places, xp: i64) -> bool
-    requires { ⌜ (checkOf (now s) .number ≡ 0) × (p ≡ placesOf (now s)) × (natAbs xp ≤ 2_247_483_648) ⌝ }
+    requires { ⌜ KnownToPass (now s) p × (natAbs xp ≤ 2_247_483_648) ⌝ }
     ensures { λ r. ⌜ r ≡ eastingKnown (now (s .entry)) xp ⌝ }
 {
     within(s, p.easting, entries::EASTING, figures::size(xp) as i64)
@@ -77,7 +81,7 @@ pub fn easting_known(s: &[u8], p: Places, xp: i64) -> bool
 
 // Whether x′ in size is not above the last kind 6 row.
 pub fn scale_known(s: &[u8], p: Places, xp: i64) -> bool
-    requires { ⌜ (checkOf (now s) .number ≡ 0) × (p ≡ placesOf (now s)) × (natAbs xp ≤ 2_247_483_648) ⌝ }
+    requires { ⌜ KnownToPass (now s) p × (natAbs xp ≤ 2_247_483_648) ⌝ }
     ensures { λ r. ⌜ r ≡ scaleKnown (now (s .entry)) xp ⌝ }
 {
     within(s, p.scale, entries::SCALE, figures::size(xp) as i64)
@@ -85,7 +89,7 @@ pub fn scale_known(s: &[u8], p: Places, xp: i64) -> bool
 
 // Whether y lies from 0 to the last kind 4 row.
 pub fn northing_known(s: &[u8], p: Places, y: i32) -> bool
-    requires { ⌜ (checkOf (now s) .number ≡ 0) × (p ≡ placesOf (now s)) ⌝ }
+    requires { ⌜ KnownToPass (now s) p ⌝ }
     ensures { λ r. ⌜ r ≡ northingKnown (now (s .entry)) y ⌝ }
 {
     within(s, p.northing, entries::NORTHING, y as i64)
@@ -93,7 +97,7 @@ pub fn northing_known(s: &[u8], p: Places, y: i32) -> bool
 
 // Whether the reduced northing lies from the first y0 to the last.
 pub fn reduced_known(s: &[u8], p: Places, reduced: i64) -> bool
-    requires { ⌜ (checkOf (now s) .number ≡ 0) × (p ≡ placesOf (now s)) ⌝ }
+    requires { ⌜ KnownToPass (now s) p ⌝ }
     ensures { λ r. ⌜ r ≡ reducedKnown (now (s .entry)) reduced ⌝ }
 {
     (tables::y0_of(s, p, 0) <= reduced) & (reduced <= tables::y0_of(s, p, p.latitude.rows - 1))

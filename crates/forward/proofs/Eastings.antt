@@ -13,8 +13,8 @@ use Rattle.figures.specs.Ranges.{mostH, mostV, mostA, mostS}
 use Rattle.steps.specs.Steps.{qOf, qHalf, sizeOfX, sizeOfXHalf, rise, riseHalf}
 use Rattle.figures.proofs.Sizes.{Size, size-from, sum-nonNeg, size-product, size-withSign, sum-most, product-most}
 use Rattle.steps.proofs.StepBounds.{q-most, x-size-most, rise-most}
-use Rattle.entries.specs.Layout.{latitude, longitude, stepOf}
-use Rattle.entries.specs.Entries.{rowsOf}
+use Rattle.entries.specs.Layout.{latitude, longitude}
+use Rattle.entries.specs.Entries.{Within}
 use Rattle.bodies.specs.Check.{checkOf}
 use Rattle.tables.specs.Figures.{falseEasting, y0At, y0Half, hAt, hHalf, vAt, vHalf, aAt, aHalf, bAt, bHalf, cAt, cHalf}
 use Rattle.tables.proofs.Ranges.{easting-size, y0-between, h-between, h-least, v-between, a-most, b-between, b-slope, c-between}
@@ -52,7 +52,7 @@ unfolding planeAt planeFrom
 plane-worked s north west p q r e f g k mx my = rw (e ∙ f, g ∙ k, mx, my, r, q, p)
 
 -- ---- at a place within the tables
-module _ (s : List ℕ) (z : checkOf s .number ≡ 0) (t : ℕ) (ht : t ≤ (rowsOf s latitude - 1) * stepOf latitude) where
+module _ (s : List ℕ) (z : checkOf s .number ≡ 0) (t : ℕ) (ht : Within s latitude t) where
   pub h-most : hAt s t ≤ mostH
   unfolding hAt
   h-most = h-between s z t ht .high
@@ -61,9 +61,9 @@ module _ (s : List ℕ) (z : checkOf s .number ≡ 0) (t : ℕ) (ht : t ≤ (row
   unfolding vAt
   v-most = v-between s z t ht .high
 
-  module _ (size : ℕ) (hl : size ≤ (rowsOf s longitude - 1) * stepOf longitude) where
+  module _ (size : ℕ) (hl : Within s longitude size) where
     pub s-most : size ≤ mostS
-    s-most = le-trans hl (longitude-span s z)
+    s-most = le-trans (hl .most) (longitude-span s z)
 
     pub x-size : natAbs (xSize s t size) ≤ 61_204_000
     unfolding xSize
@@ -94,7 +94,7 @@ module _ (s : List ℕ) (z : checkOf s .number ≡ 0) (t : ℕ) (ht : t ≤ (row
     y-most = sum-most (y0At s t) (rise (vAt s t) (qOf size) (cAt s size)) {A = 999_999_999} {B = 504_200} (y0-between s z t ht .high) y-rise
 
   -- x fits 32 bits
-  pub x-most : (l : ℤ) → natAbs l ≤ (rowsOf s longitude - 1) * stepOf longitude → natAbs (xOf s t l) ≤ 161_204_000
+  pub x-most : (l : ℤ) → Within s longitude (natAbs l) → natAbs (xOf s t l) ≤ 161_204_000
   unfolding xOf
   x-most l hl =
       sum-most (withSign l (xSize s t (natAbs l))) (falseEasting s) {A = 61_204_000} {B = 100_000_000}

@@ -3,11 +3,11 @@ use entries::Places;
 use figures::Rounded;
 ghost use mathlib.Core.Path.{_≡_};
 ghost use mathlib.Core.Bool.{true};
-ghost use Prim.Native.Nat.{_-_, _*_, _≤_};
+ghost use Prim.Native.Nat.{_≤_};
 ghost use lib.IntN.{natAbs};
-ghost use Rattle.entries.specs.Layout.{latitude, longitude, stepOf};
-ghost use Rattle.entries.specs.Entries.{rowsOf, placesOf};
-ghost use Rattle.bodies.specs.Check.{checkOf};
+ghost use Rattle.entries.specs.Layout.{latitude, longitude};
+ghost use Rattle.entries.specs.Entries.{Within};
+ghost use Rattle.bodies.specs.Check.{KnownToPass};
 ghost use Rattle.tables.specs.Figures.{bAt, bHalf, cAt, cHalf};
 ghost use Rattle.extent.specs.Extent.{latitudeKnown, longitudeKnown};
 ghost use Rattle.forward.specs.Forward.{xSize, xOf, xHalf, yOf, yHalf, planeAt, forwardOf};
@@ -22,7 +22,7 @@ pub struct Plane {
 
 // The size of x′, in 0.01 ft, at the latitude's distance t from row 0 and the size of L, with b read there.
 fn x_size(s: &[u8], p: Places, t: u64, size: u64, b: Rounded) -> Rounded
-    requires { ⌜ (checkOf (now s) .number ≡ 0) × (p ≡ placesOf (now s)) × (t ≤ (rowsOf (now s) latitude - 1) * stepOf latitude) × (size ≤ (rowsOf (now s) longitude - 1) * stepOf longitude) × (b .value ≡ bAt (now s) size) × (b .half ≡ bHalf (now s) size) ⌝ }
+    requires { ⌜ KnownToPass (now s) p × Within (now s) latitude t × Within (now s) longitude size × (b .value ≡ bAt (now s) size) × (b .half ≡ bHalf (now s) size) ⌝ }
     ensures { λ r. ⌜ (r .value ≡ xSize (now (s .entry)) t size) × (natAbs (r .value) ≤ 61_204_000) × (r .half ≡ xHalf (now (s .entry)) t size) ⌝ }
 {
     let h = tables::h_at(s, p, t);
@@ -36,7 +36,7 @@ fn x_size(s: &[u8], p: Places, t: u64, size: u64, b: Rounded) -> Rounded
 
 // x, in 0.01 ft, with b read at the size of L.
 fn x_of(s: &[u8], p: Places, t: u64, l: i64, b: Rounded) -> Rounded
-    requires { ⌜ (checkOf (now s) .number ≡ 0) × (p ≡ placesOf (now s)) × (t ≤ (rowsOf (now s) latitude - 1) * stepOf latitude) × (natAbs l ≤ (rowsOf (now s) longitude - 1) * stepOf longitude) × (b .value ≡ bAt (now s) (natAbs l)) × (b .half ≡ bHalf (now s) (natAbs l)) ⌝ }
+    requires { ⌜ KnownToPass (now s) p × Within (now s) latitude t × Within (now s) longitude (natAbs l) × (b .value ≡ bAt (now s) (natAbs l)) × (b .half ≡ bHalf (now s) (natAbs l)) ⌝ }
     ensures { λ r. ⌜ (r .value ≡ xOf (now (s .entry)) t l) × (natAbs (r .value) ≤ 161_204_000) × (r .half ≡ xHalf (now (s .entry)) t (natAbs l)) ⌝ }
 {
     let size = x_size(s, p, t, figures::size(l), b);
@@ -49,7 +49,7 @@ fn x_of(s: &[u8], p: Places, t: u64, l: i64, b: Rounded) -> Rounded
 
 // y, in 0.01 ft, with c read at the size of L.
 fn y_of(s: &[u8], p: Places, t: u64, size: u64, c: Rounded) -> Rounded
-    requires { ⌜ (checkOf (now s) .number ≡ 0) × (p ≡ placesOf (now s)) × (t ≤ (rowsOf (now s) latitude - 1) * stepOf latitude) × (size ≤ (rowsOf (now s) longitude - 1) * stepOf longitude) × (c .value ≡ cAt (now s) size) × (c .half ≡ cHalf (now s) size) ⌝ }
+    requires { ⌜ KnownToPass (now s) p × Within (now s) latitude t × Within (now s) longitude size × (c .value ≡ cAt (now s) size) × (c .half ≡ cHalf (now s) size) ⌝ }
     ensures { λ r. ⌜ (r .value ≡ yOf (now (s .entry)) t size) × (natAbs (r .value) ≤ 1_000_504_199) × (r .half ≡ yHalf (now (s .entry)) t size) ⌝ }
 {
     let q = steps::q_of(size);
@@ -64,7 +64,7 @@ fn y_of(s: &[u8], p: Places, t: u64, size: u64, c: Rounded) -> Rounded
 
 // The point on the plane, of a latitude and a longitude within the tables. What is read at the size of L comes first: it is ready when H and a are.
 fn plane_at(s: &[u8], p: Places, latitude: i32, longitude: i32) -> Plane
-    requires { ⌜ (checkOf (now s) .number ≡ 0) × (p ≡ placesOf (now s)) × (latitudeKnown (now s) latitude ≡ true) × (longitudeKnown (now s) longitude ≡ true) ⌝ }
+    requires { ⌜ KnownToPass (now s) p × (latitudeKnown (now s) latitude ≡ true) × (longitudeKnown (now s) longitude ≡ true) ⌝ }
     ensures { λ r. ⌜ r ≡ planeAt (now (s .entry)) latitude longitude ⌝ }
 {
     let t = extent::from_first(s, p, latitude) as u64;
@@ -84,7 +84,7 @@ fn plane_at(s: &[u8], p: Places, latitude: i32, longitude: i32) -> Plane
 
 // Geographic to plane: 10, 11, or x and y.
 pub fn forward(s: &[u8], p: Places, latitude: i32, longitude: i32) -> Plane
-    requires { ⌜ (checkOf (now s) .number ≡ 0) × (p ≡ placesOf (now s)) ⌝ }
+    requires { ⌜ KnownToPass (now s) p ⌝ }
     ensures { λ r. ⌜ r ≡ forwardOf (now (s .entry)) latitude longitude ⌝ }
 {
     if !extent::latitude_known(s, p, latitude) {

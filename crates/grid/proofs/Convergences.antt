@@ -8,11 +8,12 @@ use lib.Dec.{lit≤}
 use lib.IntN.{ℤ, natAbs}
 use Rattle.steps.specs.Steps.{convergence, convergenceHalf}
 use Rattle.steps.proofs.StepBounds.{convergence-most}
+use Rattle.entries.specs.Layout.{scale, farthest}
 use Rattle.bodies.specs.Check.{checkOf}
 use Rattle.tables.specs.Figures.{mAt, mHalf, kAt, kHalf}
 use Rattle.tables.proofs.Ranges.{m-between}
 use Rattle.extent.specs.Extent.{scaleKnown, northingKnown}
-use Rattle.extent.proofs.Reach.{scale-reach, scale-span, northing-reach}
+use Rattle.extent.proofs.Reach.{scale-within, scale-span, northing-within}
 use Rattle.grid.specs.Grid.{grid, convergenceAt, gridHalf, gridAt}
 
 module _ (s : List ℕ) (xp y : ℤ) where
@@ -31,10 +32,10 @@ module _ (s : List ℕ) (xp y : ℤ) where
   grid-worked e f g h m = rw (e ∙ f, g ∙ h, m)
 
   module _ (z : checkOf s .number ≡ 0) (there : scaleKnown s xp ≡ true) where
-    pub xp-most : natAbs xp ≤ 99_500_000
-    xp-most = le-trans (scale-reach s xp there) (scale-span s z)
+    pub xp-most : natAbs xp ≤ farthest scale
+    xp-most = le-trans (scale-within s xp there .most) (scale-span s z)
 
     pub convergence-small : northingKnown s y ≡ true → natAbs (convergenceAt s xp y) ≤ 21_474_837
     unfolding convergenceAt mAt
     convergence-small known =
-        convergence-most (mAt s (natAbs y)) xp (m-between s z (natAbs y) (northing-reach s y known .high) .high) (le-trans xp-most (lit≤ tt))
+        convergence-most (mAt s (natAbs y)) xp (m-between s z (natAbs y) (northing-within s y known) .high) (le-trans xp-most (lit≤ tt))

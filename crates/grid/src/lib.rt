@@ -2,8 +2,7 @@
 use entries::Places;
 ghost use mathlib.Core.Path.{_≡_};
 ghost use mathlib.Core.Bool.{true};
-ghost use Rattle.entries.specs.Entries.{placesOf};
-ghost use Rattle.bodies.specs.Check.{checkOf};
+ghost use Rattle.bodies.specs.Check.{KnownToPass};
 ghost use Rattle.extent.specs.Extent.{scaleKnown, northingKnown};
 ghost use Rattle.grid.specs.Grid.{gridAt, gridOf};
 
@@ -17,7 +16,7 @@ pub struct Grid {
 
 // The grid at a point within the tables.
 fn grid_at(s: &[u8], p: Places, xp: i64, y: i32) -> Grid
-    requires { ⌜ (checkOf (now s) .number ≡ 0) × (p ≡ placesOf (now s)) × (scaleKnown (now s) xp ≡ true) × (northingKnown (now s) y ≡ true) ⌝ }
+    requires { ⌜ KnownToPass (now s) p × (scaleKnown (now s) xp ≡ true) × (northingKnown (now s) y ≡ true) ⌝ }
     ensures { λ r. ⌜ r ≡ gridAt (now (s .entry)) xp y ⌝ }
 {
     let m = tables::m_at(s, p, (y as i64) as u64);
@@ -33,7 +32,7 @@ fn grid_at(s: &[u8], p: Places, xp: i64, y: i32) -> Grid
 
 // Convergence and scale: 12, 13, or Δα and k.
 pub fn convergence(s: &[u8], p: Places, x: i32, y: i32) -> Grid
-    requires { ⌜ (checkOf (now s) .number ≡ 0) × (p ≡ placesOf (now s)) ⌝ }
+    requires { ⌜ KnownToPass (now s) p ⌝ }
     ensures { λ r. ⌜ r ≡ gridOf (now (s .entry)) x y ⌝ }
 {
     let xp = extent::x_prime(s, p, x);

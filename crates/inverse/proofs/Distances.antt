@@ -7,7 +7,7 @@ use native.Mathlib.Nat.{le-trans, le-of-lt}
 use native.Mathlib.Decide.{decLt}
 use native.Mathlib.Omega.{arith}
 use borrow.Author.Tests.{leb-true, ltb-true, le-leb}
-use lib.Dec.{T, lit≤}
+use lib.Dec.{T}
 use lib.IntN.{ℤ, pos, negsuc, natAbs, _-ℤ_}
 use lib.Signed.{leZ, ltZ, nonNeg}
 use mir.Syntax.{w64}
@@ -19,17 +19,17 @@ use Rattle.figures.proofs.Rounding.{nearestSize-multiple, nearestSize-most}
 use Rattle.figures.proofs.Halves.{multiple-no-half}
 use Rattle.words.specs.Ladder.{whereBelow}
 use Rattle.words.proofs.Refusals.{where-below, where-beyond}
-use Rattle.entries.specs.Layout.{latitude, stepOf}
-use Rattle.entries.specs.Entries.{rowsOf}
+use Rattle.rules.specs.Latitude.{leastRise}
+use Rattle.entries.specs.Layout.{latitude, oneMinute}
+use Rattle.entries.specs.Entries.{rowsOf, Within}
 use Rattle.bodies.specs.Check.{checkOf}
 use Rattle.row_search.specs.Rows.{RisesBy}
 use Rattle.row_search.proofs.LastRow.{last-below, last-not-above, later-above}
 use Rattle.tables.specs.Figures.{y0Of}
-use Rattle.tables.proofs.Past.{past-reach}
+use Rattle.tables.proofs.Past.{past-within}
 use Rattle.tables.proofs.Ranges.{latitude-some, latitude-two, y0-size, y0-rises}
 use Rattle.extent.specs.Extent.{reducedKnown}
-use Rattle.extent.proofs.Counts.{count-small}
-use Rattle.extent.proofs.Reach.{reduced-reach}
+use Rattle.extent.proofs.Reach.{latitude-count, reduced-reach}
 use Rattle.inverse.specs.Inverse.{rowOf, secondsPast, secondsPastHalf, distanceOf, distanceHalf}
 
 -- ---- the order of sizes, and their difference
@@ -69,10 +69,10 @@ module _ (s : List ℕ) (ok : checkOf s .number ≡ 0) (z : ℤ) (known : reduce
   gap row = natAbs (y0Of s (row + 1) -ℤ y0Of s row)
 
   abbrev secondsAt : ℕ → ℕ
-  secondsAt row = seconds (stepOf latitude) (past row) (gap row)
+  secondsAt row = seconds oneMinute (past row) (gap row)
 
   abbrev halfAt : ℕ → Bool
-  halfAt row = secondsHalf (stepOf latitude) (past row) (gap row)
+  halfAt row = secondsHalf oneMinute (past row) (gap row)
 
   pub row-there : rowOf s z < n
   unfolding rowOf
@@ -118,7 +118,7 @@ module _ (s : List ℕ) (ok : checkOf s .number ≡ 0) (z : ℤ) (known : reduce
     after-y0 : Size 0 (y0Of s (row + 1)) 999_999_999
     after-y0 = y0-size s ok (row + 1) next-there
 
-    rises : natAbs (y0Of s row) + 600_000 ≤ natAbs (y0Of s (row + 1))
+    rises : natAbs (y0Of s row) + leastRise ≤ natAbs (y0Of s (row + 1))
     unfolding RisesBy
     rises = leb-true _ _ (rw (this-y0 .is, after-y0 .is) at (y0-rises s ok row next-there .0))
 
@@ -158,25 +158,25 @@ module _ (s : List ℕ) (ok : checkOf s .number ≡ 0) (z : ℤ) (known : reduce
     gap-most = omega (arith, gap-is, after-y0 .high)
 
     -- and the seconds at most the step, which they are at the last row
-    seconds-most : secondsAt row ≤ stepOf latitude
+    seconds-most : secondsAt row ≤ oneMinute
     unfolding seconds
-    seconds-most = nearestSize-most _ _ (stepOf latitude) gap-some (omega (arith, past-most))
+    seconds-most = nearestSize-most _ _ oneMinute gap-some (omega (arith, past-most))
 
     module _ (last : n ≤ rowOf s z + 1) where
       whole-gap : past row ≡ gap row
       whole-gap = omega (arith, past-is, gap-is, at-last last)
 
-      whole-step : secondsAt row ≡ stepOf latitude
-      whole-step = rw whole-gap (whole-seconds (stepOf latitude) (gap row) gap-some)
+      whole-step : secondsAt row ≡ oneMinute
+      whole-step = rw whole-gap (whole-seconds oneMinute (gap row) gap-some)
 
       no-half : halfAt row ≡ false
-      no-half = rw whole-gap (whole-no-half (stepOf latitude) (gap row) gap-some)
+      no-half = rw whole-gap (whole-no-half oneMinute (gap row) gap-some)
 
-    pub distance-is : row * stepOf latitude + secondsAt row ≡ distanceOf s z
+    pub distance-is : row * oneMinute + secondsAt row ≡ distanceOf s z
     unfolding distanceOf secondsPast
     distance-is = pick (decLt (rowOf s z + 1) n)
       where
-        pick : Dec (rowOf s z + 1 < n) → row * stepOf latitude + secondsAt row ≡ rowOf s z * stepOf latitude + whereBelow (rowOf s z + 1) n (secondsAt (rowOf s z)) 0
+        pick : Dec (rowOf s z + 1 < n) → row * oneMinute + secondsAt row ≡ rowOf s z * oneMinute + whereBelow (rowOf s z + 1) n (secondsAt (rowOf s z)) 0
         pick (yes h) = rw (its-row h, where-below (rowOf s z + 1) n (secondsAt (rowOf s z)) 0 h)
         pick (no h) = omega (arith, whole-step (omega arith), row-after (omega arith), where-beyond (rowOf s z + 1) n (secondsAt (rowOf s z)) 0 (omega arith))
 
@@ -193,7 +193,7 @@ module _ (s : List ℕ) (ok : checkOf s .number ≡ 0) (z : ℤ) (known : reduce
     row-below = omega (arith, next-there)
 
     pub next-fits : Fits w64 (row + 1)
-    next-fits = record { fits = omega (arith, next-there, count-small s latitude ok (lit≤ tt) (lit≤ tt)) }
+    next-fits = record { fits = omega (arith, next-there, latitude-count s ok) }
 
     module _ (y y′ z′ : ℤ) (g : y′ ≡ y) (k : y ≡ y0Of s row) (same : z′ ≡ z) where
       pub above-row : leZ y′ z′ ≡ true
@@ -213,11 +213,11 @@ module _ (s : List ℕ) (ok : checkOf s .number ≡ 0) (z : ℤ) (known : reduce
           pub seconds-ask : (past′ ≤ mostGap) × (0 < gap′) × (gap′ ≤ mostGap)
           seconds-ask = rw (past-same, gap-same) (le-trans past-most gap-most, gap-some, gap-most)
 
-          pub seconds-are : (step r : ℕ) (half : Bool) → step ≡ stepOf latitude → r ≡ seconds step past′ gap′ → half ≡ secondsHalf step past′ gap′
-              → (row * stepOf latitude + r ≡ distanceOf s z) × (r ≤ stepOf latitude) × (half ≡ distanceHalf s z)
-          seconds-are step r half st a b =
-              let its : r ≡ secondsAt row = a ∙ rw (st, past-same, gap-same) in
-              (rw its distance-is, rw its seconds-most, b ∙ rw (st, past-same, gap-same) half-is)
+          pub seconds-are : (r : ℕ) (half : Bool) → r ≡ seconds oneMinute past′ gap′ → half ≡ secondsHalf oneMinute past′ gap′
+              → (row * oneMinute + r ≡ distanceOf s z) × (r ≤ oneMinute) × (half ≡ distanceHalf s z)
+          seconds-are r half a b =
+              let its : r ≡ secondsAt row = a ∙ rw (past-same, gap-same) in
+              (rw its distance-is, rw its seconds-most, b ∙ rw (past-same, gap-same) half-is)
 
   -- where it has a next row, what lies past it is less than the gap
   pub past-gap : rowOf s z + 1 < n → natAbs (z -ℤ y0Of s (rowOf s z)) < natAbs (y0Of s (rowOf s z + 1) -ℤ y0Of s (rowOf s z))
@@ -226,7 +226,7 @@ module _ (s : List ℕ) (ok : checkOf s .number ≡ 0) (z : ℤ) (known : reduce
       omega (arith, past-is (rowOf s z) its, gap-is (rowOf s z) its, not-above (rowOf s z) its, next-above next)
 
   -- the latitude lies from row 0 to the last
-  pub distance-most : distanceOf s z ≤ (n - 1) * stepOf latitude
-  distance-most =
+  pub distance-within : Within s latitude (distanceOf s z)
+  distance-within =
       let row = min (rowOf s z) (n - 2) in
-      rw (← distance-is row refl) (past-reach n row (secondsAt row) (stepOf latitude) (next-there row refl) (seconds-most row refl))
+      rw (← distance-is row refl) (past-within s ok row (secondsAt row) (next-there row refl) (seconds-most row refl))

@@ -13,13 +13,13 @@ use Rattle.steps.specs.Steps.{approximateL, approximateLHalf, sizeOfL, sizeOfLH
 use Rattle.figures.proofs.Sizes.{Size, size-from, sum-nonNeg, size-minus, size-product, product-most}
 use Rattle.figures.proofs.Rounding.{IsNearest, is-nearest}
 use Rattle.steps.proofs.StepBounds.{reduction-most, approximate-most, l-size-most}
-use Rattle.entries.specs.Layout.{latitude, northing, easting, stepOf}
-use Rattle.entries.specs.Entries.{rowsOf}
+use Rattle.entries.specs.Layout.{latitude, northing, easting}
+use Rattle.entries.specs.Entries.{Within}
 use Rattle.bodies.specs.Check.{checkOf}
 use Rattle.tables.specs.Figures.{firstLatitude, hAt, hHalf, aAt, aHalf, bAt, bHalf, pAt, pHalf, dAt, dHalf}
 use Rattle.tables.proofs.Ranges.{h-least, a-most, b-between, b-slope, p-between, d-between}
 use Rattle.extent.specs.Extent.{sizeKnown}
-use Rattle.extent.proofs.Reach.{easting-span, size-reach}
+use Rattle.extent.proofs.Reach.{easting-span, size-within}
 use Rattle.inverse.specs.Inverse.{geographic, reducedHalf, approximateOf, sizeOf, sizeHalf, longitudeOf, geographicAt}
 
 -- ---- the steps, from the figures as they were read: a number with ′ has the bits of the one without
@@ -58,15 +58,15 @@ approximate-low x h zero l near = omega arith
 approximate-low x h (suc n) l near = omega (arith, near .low, mul-le-mul-left (suc n) l)
 
 -- ---- at a place within the tables
-pub reduction-small : (s : List ℕ) → checkOf s .number ≡ 0 → (x y : ℕ) → x ≤ (rowsOf s easting - 1) * stepOf easting → y ≤ (rowsOf s northing - 1) * stepOf northing
+pub reduction-small : (s : List ℕ) → checkOf s .number ≡ 0 → (x y : ℕ) → Within s easting x → Within s northing y
     → natAbs (reduction (pAt s y) x (dAt s x)) ≤ 8_100_100
 unfolding pAt
 reduction-small s z x y hx hy =
-    reduction-most (pAt s y) x (dAt s x) (p-between s z y hy .high) (le-trans hx (le-trans (easting-span s z) (lit≤ tt))) (d-between s z x hx)
+    reduction-most (pAt s y) x (dAt s x) (p-between s z y hy .high) (le-trans (hx .most) (le-trans (easting-span s z) (lit≤ tt))) (d-between s z x hx)
 
-module _ (s : List ℕ) (z : checkOf s .number ≡ 0) (x t : ℕ) (hx : x ≤ (rowsOf s easting - 1) * stepOf easting) (ht : t ≤ (rowsOf s latitude - 1) * stepOf latitude) where
+module _ (s : List ℕ) (z : checkOf s .number ≡ 0) (x t : ℕ) (hx : Within s easting x) (ht : Within s latitude t) where
   pub x-small : x ≤ mostX
-  x-small = le-trans hx (le-trans (easting-span s z) (lit≤ tt))
+  x-small = le-trans (hx .most) (le-trans (easting-span s z) (lit≤ tt))
 
   pub approximate-small : approximateOf s x t ≤ 30_000_000
   unfolding approximateOf
@@ -77,7 +77,7 @@ module _ (s : List ℕ) (z : checkOf s .number ≡ 0) (x t : ℕ) (hx : x ≤ (r
   unfolding approximateOf approximateL
   l-not-negative known =
       let size = approximateOf s x t in
-      let b = b-slope s z size (size-reach s (pos size) known .high) in
+      let b = b-slope s z size (size-within s (pos size) known) in
       let near = is-nearest (x * 10_000) (hAt s t) (omega (arith, h-least s z t ht)) in
       let low = approximate-low x (hAt s t) (approximateL x (hAt s t)) (h-least s z t ht) near in
       sum-nonNeg (x * 10_000) (negℤ (aAt s t *ℤ bAt s size))
@@ -93,4 +93,4 @@ module _ (s : List ℕ) (z : checkOf s .number ≡ 0) (x t : ℕ) (hx : x ≤ (r
     unfolding sizeOf
     l-between e =
         let approximate = approximateOf s x t in
-        size-from e (l-size-most x (aAt s t) (bAt s approximate) (hAt s t) x-small (a-most s z t ht) (b-between s z approximate (size-reach s (pos approximate) known .high)) (omega (arith, h-least s z t ht)))
+        size-from e (l-size-most x (aAt s t) (bAt s approximate) (hAt s t) x-small (a-most s z t ht) (b-between s z approximate (size-within s (pos approximate) known)) (omega (arith, h-least s z t ht)))

@@ -6,7 +6,7 @@ use lib.IntN.{ℤ, pos, natAbs, _+ℤ_, _-ℤ_}
 use Rattle.figures.specs.Nearest.{withSign}
 use Rattle.steps.specs.Steps.{reduction, reductionHalf, seconds, secondsHalf, approximateL, approximateLHalf, sizeOfL, sizeOfLHalf}
 use Rattle.words.specs.Ladder.{need, whereBelow}
-use Rattle.entries.specs.Layout.{latitude, stepOf}
+use Rattle.entries.specs.Layout.{latitude, oneMinute}
 use Rattle.entries.specs.Entries.{rowsOf}
 use Rattle.row_search.specs.Rows.{lastNotAbove}
 use Rattle.tables.specs.Figures.{centralMeridian, firstLatitude, y0Of, hAt, hHalf, aAt, aHalf, bAt, bHalf, pAt, pHalf, dAt, dHalf}
@@ -41,16 +41,16 @@ gapOf s row = natAbs (y0Of s (row + 1) -ℤ y0Of s row)
 
 -- "seconds = 60(reduced − y0)/(y0 next − y0), to 0.001, and 0 at the last row."
 unfoldable pub secondsPast : List ℕ → ℤ → ℕ → ℕ
-secondsPast s reduced row = whereBelow (row + 1) (rowsOf s latitude) (seconds (stepOf latitude) (pastOf s reduced row) (gapOf s row)) 0
+secondsPast s reduced row = whereBelow (row + 1) (rowsOf s latitude) (seconds oneMinute (pastOf s reduced row) (gapOf s row)) 0
 
 -- Whether they met a half: no at the last row.
 unfoldable pub secondsPastHalf : List ℕ → ℤ → ℕ → Bool
-secondsPastHalf s reduced row = whereBelow (row + 1) (rowsOf s latitude) (secondsHalf (stepOf latitude) (pastOf s reduced row) (gapOf s row)) false
+secondsPastHalf s reduced row = whereBelow (row + 1) (rowsOf s latitude) (secondsHalf oneMinute (pastOf s reduced row) (gapOf s row)) false
 
 -- The latitude's distance from row 0: the row's, and the seconds. "If that comes to 60.000 the latitude is the next minute": 60.000 past a row is the next row
 -- itself, at which nothing is left to read between rows.
 unfoldable pub distanceOf : List ℕ → ℤ → ℕ
-distanceOf s reduced = rowOf s reduced * stepOf latitude + secondsPast s reduced (rowOf s reduced)
+distanceOf s reduced = rowOf s reduced * oneMinute + secondsPast s reduced (rowOf s reduced)
 
 -- Whether it met a half: of the two, the seconds alone are rounded.
 unfoldable pub distanceHalf : List ℕ → ℤ → Bool

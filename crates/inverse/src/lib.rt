@@ -9,9 +9,9 @@ ghost use Prim.Native.Nat.{_+_, _-_, _*_, _^_, _<_, _≤_, min};
 ghost use lib.IntN.{pos, natAbs, _-ℤ_};
 ghost use lib.Signed.{leZ};
 ghost use Rattle.figures.specs.Ranges.{mostGap};
-ghost use Rattle.entries.specs.Layout.{latitude, easting, stepOf};
-ghost use Rattle.entries.specs.Entries.{rowsOf, placesOf};
-ghost use Rattle.bodies.specs.Check.{checkOf};
+ghost use Rattle.entries.specs.Layout.{latitude, easting, oneMinute};
+ghost use Rattle.entries.specs.Entries.{rowsOf, Within};
+ghost use Rattle.bodies.specs.Check.{KnownToPass};
 ghost use Rattle.steps.specs.Steps.{approximateLHalf};
 ghost use Rattle.tables.specs.Figures.{hAt};
 ghost use Rattle.extent.specs.Extent.{sizeKnown, eastingKnown, northingKnown, reducedKnown};
@@ -27,7 +27,7 @@ pub struct Geographic {
 
 // The reduced northing, in 0.01 ft, at the size x of x′ and y.
 pub fn reduced_northing(s: &[u8], p: Places, x: u64, y: i32) -> Rounded
-    requires { ⌜ (checkOf (now s) .number ≡ 0) × (p ≡ placesOf (now s)) × (x ≤ (rowsOf (now s) easting - 1) * stepOf easting) × (northingKnown (now s) y ≡ true) ⌝ }
+    requires { ⌜ KnownToPass (now s) p × Within (now s) easting x × (northingKnown (now s) y ≡ true) ⌝ }
     ensures { λ r. ⌜ (r .value ≡ reducedNorthing (now (s .entry)) x y) × (natAbs (r .value) < 2 ^ 62) × (r .half ≡ reducedHalf (now (s .entry)) x y) ⌝ }
 {
     let north = y as i64;
@@ -50,22 +50,18 @@ fn above(low: i64, high: i64) -> u64
 
 // The seconds of the reduced northing past its row, in 0.001″, or past the one before where its row is the last. There they are the whole step and no half.
 fn seconds_past(s: &[u8], p: Places, reduced: i64, row: usize) -> RoundedSize
-    requires { ⌜ (checkOf (now s) .number ≡ 0) × (p ≡ placesOf (now s)) × (reducedKnown (now s) reduced ≡ true) × (row ≡ min (rowOf (now s) reduced) (rowsOf (now s) latitude - 2)) ⌝ }
-    ensures { λ r. ⌜ (row * stepOf latitude + r .value ≡ distanceOf (now (s .entry)) reduced) × (r .value ≤ stepOf latitude) × (r .half ≡ distanceHalf (now (s .entry)) reduced) ⌝ }
+    requires { ⌜ KnownToPass (now s) p × (reducedKnown (now s) reduced ≡ true) × (row ≡ min (rowOf (now s) reduced) (rowsOf (now s) latitude - 2)) ⌝ }
+    ensures { λ r. ⌜ (row * oneMinute + r .value ≡ distanceOf (now (s .entry)) reduced) × (r .value ≤ oneMinute) × (r .half ≡ distanceHalf (now (s .entry)) reduced) ⌝ }
 {
     let y0 = tables::y0_of(s, p, row);
     let next = tables::y0_of(s, p, row + 1);
-    steps::seconds(
-        entries::step_of(entries::LATITUDE),
-        above(y0, reduced),
-        above(y0, next),
-    )
+    steps::seconds(entries::ONE_MINUTE, above(y0, reduced), above(y0, next))
 }
 
 // Approximate L, in 0.001″, at the size x of x′ and the latitude's place.
 fn approximate_of(s: &[u8], p: Places, x: u64, at: At) -> RoundedSize
-    requires { ⌜ (checkOf (now s) .number ≡ 0) × (p ≡ placesOf (now s)) × (x ≤ (rowsOf (now s) easting - 1) * stepOf easting) × (at .row + 1 < rowsOf (now s) latitude) × (at .past ≤ stepOf latitude) ⌝ }
-    ensures { λ r. ⌜ (r .value ≡ approximateOf (now (s .entry)) x (at .row * stepOf latitude + at .past)) × (r .value ≤ 30_000_000) × (r .half ≡ approximateLHalf x (hAt (now (s .entry)) (at .row * stepOf latitude + at .past))) ⌝ }
+    requires { ⌜ KnownToPass (now s) p × Within (now s) easting x × (at .row + 1 < rowsOf (now s) latitude) × (at .past ≤ oneMinute) ⌝ }
+    ensures { λ r. ⌜ (r .value ≡ approximateOf (now (s .entry)) x (at .row * oneMinute + at .past)) × (r .value ≤ 30_000_000) × (r .half ≡ approximateLHalf x (hAt (now (s .entry)) (at .row * oneMinute + at .past))) ⌝ }
 {
     let l = steps::approximate_l(x, tables::h_past(s, p, at).value);
     RoundedSize {
@@ -76,8 +72,8 @@ fn approximate_of(s: &[u8], p: Places, x: u64, at: At) -> RoundedSize
 
 // The size of L there, in 0.001″.
 fn size_of(s: &[u8], p: Places, x: u64, at: At, approximate: RoundedSize) -> Rounded
-    requires { ⌜ (checkOf (now s) .number ≡ 0) × (p ≡ placesOf (now s)) × (x ≤ (rowsOf (now s) easting - 1) * stepOf easting) × (at .row + 1 < rowsOf (now s) latitude) × (at .past ≤ stepOf latitude) × (approximate .value ≡ approximateOf (now s) x (at .row * stepOf latitude + at .past)) × (sizeKnown (now s) (pos (approximate .value)) ≡ true) × (approximate .half ≡ approximateLHalf x (hAt (now s) (at .row * stepOf latitude + at .past))) ⌝ }
-    ensures { λ r. ⌜ (r .value ≡ sizeOf (now (s .entry)) x (at .row * stepOf latitude + at .past)) × (r .half ≡ sizeHalf (now (s .entry)) x (at .row * stepOf latitude + at .past)) ⌝ }
+    requires { ⌜ KnownToPass (now s) p × Within (now s) easting x × (at .row + 1 < rowsOf (now s) latitude) × (at .past ≤ oneMinute) × (approximate .value ≡ approximateOf (now s) x (at .row * oneMinute + at .past)) × (sizeKnown (now s) (pos (approximate .value)) ≡ true) × (approximate .half ≡ approximateLHalf x (hAt (now s) (at .row * oneMinute + at .past))) ⌝ }
+    ensures { λ r. ⌜ (r .value ≡ sizeOf (now (s .entry)) x (at .row * oneMinute + at .past)) × (r .half ≡ sizeHalf (now (s .entry)) x (at .row * oneMinute + at .past)) ⌝ }
 {
     let h = tables::h_past(s, p, at);
     let a = tables::a_past(s, p, at);
@@ -91,10 +87,10 @@ fn size_of(s: &[u8], p: Places, x: u64, at: At, approximate: RoundedSize) -> Rou
 
 // The point on the earth, of x′, the latitude's place and the size of L, which is within its table.
 fn geographic_at(s: &[u8], p: Places, xp: i64, at: At, size: Rounded, met: bool) -> Geographic
-    requires { ⌜ (checkOf (now s) .number ≡ 0) × (p ≡ placesOf (now s)) × (at .row + 1 < rowsOf (now s) latitude) × (at .past ≤ stepOf latitude) × (size .value ≡ sizeOf (now s) (natAbs xp) (at .row * stepOf latitude + at .past)) × (sizeKnown (now s) (size .value) ≡ true) × (size .half ≡ sizeHalf (now s) (natAbs xp) (at .row * stepOf latitude + at .past)) ⌝ }
-    ensures { λ r. ⌜ r ≡ geographicAt (now (s .entry)) xp (at .row * stepOf latitude + at .past) met ⌝ }
+    requires { ⌜ KnownToPass (now s) p × (at .row + 1 < rowsOf (now s) latitude) × (at .past ≤ oneMinute) × (size .value ≡ sizeOf (now s) (natAbs xp) (at .row * oneMinute + at .past)) × (sizeKnown (now s) (size .value) ≡ true) × (size .half ≡ sizeHalf (now s) (natAbs xp) (at .row * oneMinute + at .past)) ⌝ }
+    ensures { λ r. ⌜ r ≡ geographicAt (now (s .entry)) xp (at .row * oneMinute + at .past) met ⌝ }
 {
-    let t = (at.row as u64) * entries::step_of(entries::LATITUDE) + at.past;
+    let t = (at.row as u64) * entries::ONE_MINUTE + at.past;
     Geographic {
         number: 0,
         latitude: (tables::first_latitude(s, p) + (t as i64)) as i32,
@@ -105,8 +101,8 @@ fn geographic_at(s: &[u8], p: Places, xp: i64, at: At, size: Rounded, met: bool)
 
 // 11, or the point on the earth, from x′ and the latitude's place. `met`, here and below: some rounding before met a half.
 fn from_distance(s: &[u8], p: Places, xp: i64, at: At, met: bool) -> Geographic
-    requires { ⌜ (checkOf (now s) .number ≡ 0) × (p ≡ placesOf (now s)) × (eastingKnown (now s) xp ≡ true) × (at .row + 1 < rowsOf (now s) latitude) × (at .past ≤ stepOf latitude) ⌝ }
-    ensures { λ r. ⌜ r ≡ fromDistance (now (s .entry)) xp (at .row * stepOf latitude + at .past) met ⌝ }
+    requires { ⌜ KnownToPass (now s) p × (eastingKnown (now s) xp ≡ true) × (at .row + 1 < rowsOf (now s) latitude) × (at .past ≤ oneMinute) ⌝ }
+    ensures { λ r. ⌜ r ≡ fromDistance (now (s .entry)) xp (at .row * oneMinute + at .past) met ⌝ }
 {
     let x = figures::size(xp);
     let approximate = approximate_of(s, p, x, at);
@@ -132,7 +128,7 @@ fn from_distance(s: &[u8], p: Places, xp: i64, at: At, met: bool) -> Geographic
 
 // 14, 11, or the point on the earth, from x′ and the reduced northing.
 fn from_reduced(s: &[u8], p: Places, xp: i64, reduced: i64, met: bool) -> Geographic
-    requires { ⌜ (checkOf (now s) .number ≡ 0) × (p ≡ placesOf (now s)) × (eastingKnown (now s) xp ≡ true) × (natAbs reduced < 2 ^ 62) ⌝ }
+    requires { ⌜ KnownToPass (now s) p × (eastingKnown (now s) xp ≡ true) × (natAbs reduced < 2 ^ 62) ⌝ }
     ensures { λ r. ⌜ r ≡ fromReduced (now (s .entry)) xp reduced met ⌝ }
 {
     if !extent::reduced_known(s, p, reduced) {
@@ -143,7 +139,7 @@ fn from_reduced(s: &[u8], p: Places, xp: i64, reduced: i64, met: bool) -> Geogra
             half: false,
         };
     }
-    let row = tables::row_with_next(s, p.latitude, reduced);
+    let row = tables::row_with_next(s, p, reduced);
     let seconds = seconds_past(s, p, reduced, row);
     let at = At {
         row,
@@ -154,7 +150,7 @@ fn from_reduced(s: &[u8], p: Places, xp: i64, reduced: i64, met: bool) -> Geogra
 
 // Plane to geographic: 12, 13, 14, 11, or latitude and longitude.
 pub fn inverse(s: &[u8], p: Places, x: i32, y: i32) -> Geographic
-    requires { ⌜ (checkOf (now s) .number ≡ 0) × (p ≡ placesOf (now s)) ⌝ }
+    requires { ⌜ KnownToPass (now s) p ⌝ }
     ensures { λ r. ⌜ r ≡ inverseOf (now (s .entry)) x y ⌝ }
 {
     let xp = extent::x_prime(s, p, x);

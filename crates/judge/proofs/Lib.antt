@@ -2,5 +2,4 @@
 pub mod Place
 pub mod Bounds
 pub mod Kept
-pub mod Lent
 pub mod Minutes

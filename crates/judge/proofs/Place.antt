@@ -12,6 +12,7 @@ use mir.Syntax.{w64}
 use mir.Val.{Fits}
 use Rattle.figures.proofs.Sizes.{Size, size-nonNeg}
 use Rattle.figures.proofs.Tests.{both}
+use Rattle.entries.specs.Layout.{latitude, widthOf, rowBytes}
 use Rattle.rules.specs.Limits.{inRange, sameAs}
 use Rattle.rules.proofs.WhatPasses.{range-size}
 use Rattle.rows.specs.Rows.{rowAt}
@@ -64,12 +65,12 @@ module _ (b : List ℕ) (n : ℕ) (minute : ℤ) (has : hasRow b n minute ≡ tr
   row-there some = omega (arith, row-size .high)
 
 -- ---- the place as it is cast to a row: p has at most n - 1, and n rows lie in the body
-module _ (size n : ℕ) {p : ℤ} (within : Size 0 p (n - 1)) (some : 0 < n) (rows : 32 * n ≤ size) (small : size < 2 ^ 63) where
+module _ (size n : ℕ) {p : ℤ} (within : Size 0 p (n - 1)) (some : 0 < n) (rows : rowBytes latitude * n ≤ size) (small : size < 2 ^ 63) where
   pub cast-place : T (nonNeg p) × Fits w64 (natAbs p)
   cast-place = (size-nonNeg within, record { fits = omega (arith, within .high) })
 
-  pub eight-place : Fits w64 (8 * natAbs p)
-  eight-place = record { fits = omega (arith, within .high) }
+  pub place-word : Fits w64 (widthOf latitude * natAbs p)
+  place-word = record { fits = omega (arith, within .high) }
 
-  pub own-word : 4 * (8 * natAbs p) + 4 ≤ size
+  pub own-word : 4 * (widthOf latitude * natAbs p) + 4 ≤ size
   own-word = omega (arith, within .high)

@@ -9,8 +9,7 @@ ghost use mathlib.Core.Path.{_≡_};
 ghost use Prim.Native.Nat.{_+_, _≤_};
 ghost use lib.IntN.{pos};
 ghost use lib.ListN.{length};
-ghost use Rattle.entries.specs.Entries.{placesOf};
-ghost use Rattle.bodies.specs.Check.{checkOf};
+ghost use Rattle.bodies.specs.Check.{KnownToPass};
 ghost use Rattle.decimal.specs.Writing.{sizeText, numberText, Wrote};
 ghost use Rattle.lines.specs.Lines.{ended, answerLine, verdictLine, unknownLine, values, valuesOf, textOf, answerText, lineRoom};
 
@@ -104,7 +103,7 @@ fn put_values(out: &mut [u8], at: usize, v: Values) -> usize
 
 // What the line is answered on a sheet known to pass, with its places.
 pub fn values_of(s: &[u8], p: Places, l: Line) -> Values
-    requires { ⌜ (checkOf (now s) .number ≡ 0) × (p ≡ placesOf (now s)) ⌝ }
+    requires { ⌜ KnownToPass (now s) p ⌝ }
     ensures { λ r. ⌜ r ≡ valuesOf (now (s .entry)) l ⌝ }
 {
     let form = l.form;
@@ -137,7 +136,7 @@ pub fn values_of(s: &[u8], p: Places, l: Line) -> Values
 
 // The line's answer on a sheet known to pass, with its places, from `at` on; the place after it.
 pub fn answer(s: &[u8], p: Places, line: &[u8], out: &mut [u8], at: usize) -> usize
-    requires { ⌜ (checkOf (now s) .number ≡ 0) × (p ≡ placesOf (now s)) × (at + lineRoom ≤ length (now out)) ⌝ }
+    requires { ⌜ KnownToPass (now s) p × (at + lineRoom ≤ length (now out)) ⌝ }
     ensures { λ r. ⌜ (r ≤ at + lineRoom) × Wrote (now (out .entry)) (now (out .exit)) at r (answerText (now (s .entry)) (now (line .entry))) ⌝ }
 {
     let v = values_of(s, p, asked::line_of(line));

@@ -6,8 +6,7 @@ use files::More;
 ghost use mathlib.Core.Path.{_≡_};
 ghost use Prim.Native.Nat.{_*_, _≤_, _<_};
 ghost use lib.ListN.{length};
-ghost use Rattle.entries.specs.Entries.{placesOf};
-ghost use Rattle.bodies.specs.Check.{checkOf};
+ghost use Rattle.bodies.specs.Check.{KnownToPass};
 ghost use Rattle.lines.specs.Lines.{lineRoom};
 ghost use Rattle.stream.specs.Stream.{mostKept};
 ghost use Rattle.points.specs.Turn.{Turned};
@@ -25,7 +24,7 @@ struct State {
 
 // Takes what was read behind the first `kept` bytes, and answers the lines that have ended; at the input's end, what is left. A line that a failed read cut is not answered.
 fn turn(sheet: &[u8], p: Places, input: &mut [u8], kept: usize, more: More, out: &mut [u8]) -> State
-    requires { ⌜ (checkOf (now sheet) .number ≡ 0) × (p ≡ placesOf (now sheet)) × (kept ≤ mostKept) × (mostKept < length (now input)) × (kept ≤ more .to) × (more .to ≤ length (now input)) × (lineRoom * length (now input) ≤ length (now out)) ⌝ }
+    requires { ⌜ KnownToPass (now sheet) p × (kept ≤ mostKept) × (mostKept < length (now input)) × (kept ≤ more .to) × (more .to ≤ length (now input)) × (lineRoom * length (now input) ≤ length (now out)) ⌝ }
     ensures { λ r. ⌜ Turned (now (sheet .entry)) (now (input .entry)) (now (input .exit)) kept more (now (out .entry)) (now (out .exit)) r ⌝ }
 {
     let to = more.to;
@@ -49,7 +48,7 @@ fn turn(sheet: &[u8], p: Places, input: &mut [u8], kept: usize, more: More, out:
 // Answers the input from `from` on, of which the bytes to `to` are read, and writes the answers out after each piece. A proved loop has to end, so it counts its turns down from a number that no run
 // uses up.
 fn answer_input(sheet: &[u8], p: Places, input: &mut [u8], from: usize, to: usize, out: &mut [u8])
-    requires { ⌜ (checkOf (now sheet) .number ≡ 0) × (p ≡ placesOf (now sheet)) × (from ≤ to) × (to ≤ length (now input)) × (mostKept < length (now input)) × (lineRoom * length (now input) ≤ length (now out)) ⌝ }
+    requires { ⌜ KnownToPass (now sheet) p × (from ≤ to) × (to ≤ length (now input)) × (mostKept < length (now input)) × (lineRoom * length (now input) ≤ length (now out)) ⌝ }
 {
     let done = blocks::answer_block(sheet, p, input, from, to, out);
     let mut s = State { done, ended: false };
@@ -90,7 +89,7 @@ fn output() -> [u8; OUTPUT]
 }
 
 fn main() {
-    let mut sheet = [0u8; 65536];
+    let mut sheet = io::large_buffer();
     let mut input = [0u8; INPUT];
     let mut out = output();
     let name = files::read_line(&mut input, 0, 0);

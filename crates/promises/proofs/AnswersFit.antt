@@ -3,7 +3,7 @@
 use mathlib.Core.Path.{_≡_, refl, sym, subst}
 use mathlib.Core.Bool.{Bool, true, false}
 use mathlib.Core.List.{List}
-use Prim.Native.Nat.{ℕ, zero, suc, _-_, _*_, _≤_}
+use Prim.Native.Nat.{ℕ, zero, suc, _-_, _≤_}
 use native.Mathlib.Nat.{le-trans}
 use native.Mathlib.Omega.{arith}
 use lib.Dec.{lit≤}
@@ -12,13 +12,13 @@ use Rattle.figures.proofs.Sizes.{sum-most, difference-most, size-withSign}
 use Rattle.figures.specs.Nearest.{withSign}
 use Rattle.figures.specs.Ranges.{mostS}
 use Rattle.words.specs.Ladder.{need}
-use Rattle.entries.specs.Layout.{latitude, longitude, stepOf}
-use Rattle.entries.specs.Entries.{rowsOf}
+use Rattle.entries.specs.Layout.{latitude, longitude, farthest}
+use Rattle.entries.specs.Entries.{Within}
 use Rattle.bodies.specs.Check.{checkOf}
 use Rattle.tables.specs.Figures.{centralMeridian, firstLatitude}
-use Rattle.tables.proofs.Ranges.{central-size, first-most, k-between}
+use Rattle.tables.proofs.Ranges.{minutes-most, central-size, first-most, k-between}
 use Rattle.extent.specs.Extent.{fromFirst, latitudeKnown, lOf, longitudeKnown, sizeKnown, xPrime, eastingKnown, scaleKnown, northingKnown, reducedKnown}
-use Rattle.extent.proofs.Reach.{latitude-reach, longitude-reach, size-reach, scale-reach, latitude-span, longitude-span}
+use Rattle.extent.proofs.Reach.{latitude-within, longitude-within, size-reach, scale-within, latitude-span, longitude-span}
 use Rattle.forward.specs.declared.Plane.{Plane}
 use Rattle.inverse.specs.declared.Geographic.{Geographic}
 use Rattle.grid.specs.declared.Grid.{Grid}
@@ -28,7 +28,7 @@ use Rattle.grid.specs.Grid.{noGrid, gridAt, gridOf}
 use Rattle.convert.specs.Conversions.{afterCheck, geographicToPlane, planeToGeographic, convergenceAndScale}
 use Rattle.convert.proofs.Checked.{after-pass, after-fault}
 use Rattle.forward.proofs.Eastings.{x-most, y-most}
-use Rattle.inverse.proofs.Distances.{distance-most}
+use Rattle.inverse.proofs.Distances.{distance-within}
 use Rattle.grid.proofs.Convergences.{convergence-small}
 use Rattle.promises.specs.Conversions.{Fits32}
 
@@ -54,12 +54,12 @@ module _ (s : List ℕ) where
       checked P (λ r. r .number) noPlane (λ n. refl) s (forwardOf s north west) (λ n. (lit≤ tt, lit≤ tt))
       (λ z. rungs P (latitudeKnown s north) (noPlane 10) _ (lit≤ tt, lit≤ tt)
       (λ l. rungs P (longitudeKnown s west) (noPlane 11) (planeAt s north west) (lit≤ tt, lit≤ tt)
-      (λ h. worked z (latitude-reach s north l .high) (longitude-reach s west h))))
+      (λ h. worked z (latitude-within s z north l) (longitude-within s west h))))
     where
       P : Plane → Type 0
       P r = Fits32 (r .x) × Fits32 (r .y)
 
-      worked : checkOf s .number ≡ 0 → natAbs (fromFirst s north) ≤ (rowsOf s latitude - 1) * stepOf latitude → natAbs (lOf s west) ≤ (rowsOf s longitude - 1) * stepOf longitude
+      worked : checkOf s .number ≡ 0 → Within s latitude (natAbs (fromFirst s north)) → Within s longitude (natAbs (lOf s west))
           → Fits32 (xOf s (natAbs (fromFirst s north)) (lOf s west)) × Fits32 (yOf s (natAbs (fromFirst s north)) (natAbs (lOf s west)))
       worked z ht hl = (
         le-trans (x-most s z (natAbs (fromFirst s north)) ht (lOf s west) hl) (lit≤ tt),
@@ -68,8 +68,8 @@ module _ (s : List ℕ) where
 
   -- ---- plane to geographic
   -- the latitude and the longitude of a size of L within its table
-  latitude-fits : checkOf s .number ≡ 0 → (t : ℕ) → t ≤ (rowsOf s latitude - 1) * stepOf latitude → Fits32 (firstLatitude s +ℤ pos t)
-  latitude-fits z t h = le-trans (sum-most (firstLatitude s) (pos t) {A = 324_000_000} {B = 71_940_000} (first-most s z) (le-trans h (latitude-span s z))) (lit≤ tt)
+  latitude-fits : checkOf s .number ≡ 0 → (t : ℕ) → Within s latitude t → Fits32 (firstLatitude s +ℤ pos t)
+  latitude-fits z t h = le-trans (sum-most (firstLatitude s) (pos t) {A = 324_000_000} {B = farthest latitude} (first-most s z) (le-trans (minutes-most s z t h) (latitude-span s z))) (lit≤ tt)
 
   longitude-fits : checkOf s .number ≡ 0 → (xp : ℤ) (t : ℕ) → sizeKnown s (sizeOf s (natAbs xp) t) ≡ true → Fits32 (longitudeOf s xp t)
   unfolding longitudeOf
@@ -91,7 +91,7 @@ module _ (s : List ℕ) where
       (λ n. rungs P (reducedKnown s reduced) (noGeographic 14) _ (lit≤ tt, lit≤ tt)
       (λ r. rungs P (sizeKnown s (pos (approximateOf s (natAbs xp) t))) (noGeographic 11) _ (lit≤ tt, lit≤ tt)
       (λ a. rungs P (sizeKnown s (sizeOf s (natAbs xp) t)) (noGeographic 11) _ (lit≤ tt, lit≤ tt)
-      (λ b. (latitude-fits z t (distance-most s z reduced r), longitude-fits z xp t b)))))))
+      (λ b. (latitude-fits z t (distance-within s z reduced r), longitude-fits z xp t b)))))))
     where
       P : Geographic → Type 0
       P r = Fits32 (r .latitude) × Fits32 (r .longitude)
@@ -105,7 +105,7 @@ module _ (s : List ℕ) where
       (λ k. rungs P (northingKnown s y) (noGrid 13) _ (lit≤ tt, lit≤ tt)
       (λ n. (
         le-trans (convergence-small s (xPrime s x) y z k n) (lit≤ tt),
-        le-trans (k-between s z (natAbs (xPrime s x)) (scale-reach s (xPrime s x) k) .high) (lit≤ tt),
+        le-trans (k-between s z (natAbs (xPrime s x)) (scale-within s (xPrime s x) k) .high) (lit≤ tt),
       ))))
     where
       P : Grid → Type 0

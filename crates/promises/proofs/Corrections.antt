@@ -17,14 +17,15 @@ use Rattle.figures.proofs.Order.{above-of, not-above-of, not-below-of, ltZ-leZ,
 use Rattle.words.specs.Words.{wordAt}
 use Rattle.words.specs.Ladder.{need, whereBelow}
 use Rattle.words.proofs.Refusals.{past, where-below, where-beyond, is, is-not}
-use Rattle.entries.specs.Layout.{latitude, stepOf}
+use Rattle.rules.specs.Latitude.{mostRise}
+use Rattle.entries.specs.Layout.{latitude, widthOf, oneMinute}
 use Rattle.entries.specs.Entries.{startOf, rowsOf, bodyOf}
 use Rattle.contents.specs.Contents.{numberOf, contentsOf}
 use Rattle.rules.specs.declared.Figures.{Figures}
 use Rattle.rows.specs.Rows.{figuresAt}
 use Rattle.bodies.specs.Check.{checkOf}
 use Rattle.tables.specs.Figures.{y0Of}
-use Rattle.tables.proofs.Parts.{contents-none}
+use Rattle.bodies.proofs.Known.{contents-none}
 use Rattle.row_search.specs.Rows.{RisesBy}
 use Rattle.tables.proofs.Ranges.{latitude-some, y0-rises}
 use Rattle.extent.specs.Extent.{latitudeKnown, longitudeKnown, xPrime, eastingKnown, northingKnown, reducedKnown}
@@ -49,10 +50,9 @@ use Rattle.door.specs.Door.{countsOf, planeAnswer, geographicAnswer, gridAnswer
 use Rattle.door.proofs.Ways.{same-door, same-counts}
 use Rattle.door.proofs.Told.{tells-as, plane-tells, geographic-tells, grid-tells}
 use Rattle.door.specs.declared.Answer.{Answer}
-use Rattle.door.specs.declared.Point.{Point}
 use Rattle.counts.specs.Whole.{wholeOf}
 use Rattle.promises.specs.Corrections.{Passes, Word, Words, putIn, FarLatitude, SameTold, Corrects, Afresh, Local, Untouched, Demand3, EachRow}
-use Rattle.corrected.proofs.WithRow.{body-long, rows-stay, body-stays, latitude-body}
+use Rattle.corrected.proofs.WithRow.{body-long, rows-stay, step-stays, body-stays, latitude-body}
 use Rattle.corrected.proofs.OtherBytes.{other-bytes}
 use Rattle.corrected.proofs.WholeCheck.{passes-with, must-range, must-before, must-after}
 use Rattle.corrected.proofs.Beside.{Beside, latitude-rows, latitude-same, longitude-same, x-prime-same, easting-same, northing-same, y0-row-same}
@@ -73,21 +73,21 @@ module _ (s : List ℕ) (ok : checkOf s .number ≡ 0) (z : ℤ) where
   abbrev rows : ℕ
   rows = rowsOf s latitude
 
-  below-first : leZ (y0Of s 1 -ℤ pos 615_000) z ≡ false → reducedKnown s z ≡ false
+  below-first : leZ (y0Of s 1 -ℤ pos mostRise) z ≡ false → reducedKnown s z ≡ false
   unfolding reducedKnown RisesBy
   below-first e =
-      let reach : leZ (y0Of s 1) (y0Of s 0 +ℤ pos 615_000) ≡ true = y0-rises s ok 0 (omega (arith, two-rows s ok)) .1 in
-      let least : leZ (y0Of s 1 -ℤ pos 615_000) (y0Of s 0) ≡ true =
-      sym (leZ-shift (y0Of s 1 -ℤ pos 615_000) (y0Of s 0) (pos 615_000)) ∙ rw (-ℤ-+ℤ-cancel (y0Of s 1) (pos 615_000)) reach in
-      rw (not-above-of (y0Of s 0) z (ltZ-leZ z (y0Of s 1 -ℤ pos 615_000) (y0Of s 0) (above-of (y0Of s 1 -ℤ pos 615_000) z e) least))
+      let reach : leZ (y0Of s 1) (y0Of s 0 +ℤ pos mostRise) ≡ true = y0-rises s ok 0 (omega (arith, two-rows s ok)) .1 in
+      let least : leZ (y0Of s 1 -ℤ pos mostRise) (y0Of s 0) ≡ true =
+      sym (leZ-shift (y0Of s 1 -ℤ pos mostRise) (y0Of s 0) (pos mostRise)) ∙ rw (-ℤ-+ℤ-cancel (y0Of s 1) (pos mostRise)) reach in
+      rw (not-above-of (y0Of s 0) z (ltZ-leZ z (y0Of s 1 -ℤ pos mostRise) (y0Of s 0) (above-of (y0Of s 1 -ℤ pos mostRise) z e) least))
 
-  above-last : leZ z (y0Of s (rows - 2) +ℤ pos 615_000) ≡ false → reducedKnown s z ≡ false
+  above-last : leZ z (y0Of s (rows - 2) +ℤ pos mostRise) ≡ false → reducedKnown s z ≡ false
   unfolding reducedKnown RisesBy
   above-last e =
       let next : rows - 2 + 1 ≡ rows - 1 = omega (arith, two-rows s ok) in
-      let reach : leZ (y0Of s (rows - 1)) (y0Of s (rows - 2) +ℤ pos 615_000) ≡ true = rw next at (y0-rises s ok (rows - 2) (omega (arith, two-rows s ok)) .1) in
+      let reach : leZ (y0Of s (rows - 1)) (y0Of s (rows - 2) +ℤ pos mostRise) ≡ true = rw next at (y0-rises s ok (rows - 2) (omega (arith, two-rows s ok)) .1) in
       let over : leZ z (y0Of s (rows - 1)) ≡ false =
-      not-above-of z (y0Of s (rows - 1)) (leZ-ltZ (y0Of s (rows - 1)) (y0Of s (rows - 2) +ℤ pos 615_000) z reach (above-of z (y0Of s (rows - 2) +ℤ pos 615_000) e)) in
+      not-above-of z (y0Of s (rows - 1)) (leZ-ltZ (y0Of s (rows - 1)) (y0Of s (rows - 2) +ℤ pos mostRise) z reach (above-of z (y0Of s (rows - 2) +ℤ pos mostRise) e)) in
       rw over (and-false (leZ (y0Of s 0) z))
     where
       and-false : (p : Bool) → (p && false) ≡ false
@@ -125,7 +125,7 @@ module _ (s : List ℕ) (passes : Passes s) (minute : ℤ) (f : Figures) where
   unfolding correctedOf
   stays h = sym (is-not (correctionOf s minute f) 0 (putIn s minute f) s s h refl)
 
-  bytes-stay : (q : ℕ) → (q < 4 * (startOf s latitude + 8 * (r - 1))) ⊎ (4 * (startOf s latitude + 8 * r + 8) ≤ q) → getD (correctedOf s minute f) q 0 ≡ getD s q 0
+  bytes-stay : (q : ℕ) → (q < 4 * (startOf s latitude + widthOf latitude * (r - 1))) ⊎ (4 * (startOf s latitude + widthOf latitude * r + widthOf latitude) ≤ q) → getD (correctedOf s minute f) q 0 ≡ getD s q 0
   bytes-stay q far = pick (ℕ-discrete (correctionOf s minute f) 0)
     where
       pick : Dec (correctionOf s minute f ≡ 0) → getD (correctedOf s minute f) q 0 ≡ getD s q 0
@@ -176,6 +176,7 @@ module _ (s : List ℕ) (passes : Passes s) (minute : ℤ) (f : Figures) where
     beside =
         record {
           rows = λ kind l h. rows-stay s z r f kind l h;
+          steps = λ kind l h. step-stays s z r f kind l h;
           bodies = λ kind l h other. body-stays s z r f kind l h other;
           minute = rw (latitude-body s z r f) (minutes-stay b n r f 0);
           y0 = λ i h. ap (λ (g : Figures). g .y0) (old i h);
@@ -277,7 +278,7 @@ module _ (s : List ℕ) (passes : Passes s) (minute : ℤ) (f : Figures) where
     says-far : (north west : ℤ) → forwardTouched s minute north west ≡ false → latitudeKnown s north ≡ true → longitudeKnown s west ≡ true → FarLatitude minute north
     unfolding forwardTouched nearRow
     says-far north west e k l =
-        ltb-false (natAbs (north -ℤ minute *ℤ pos (stepOf latitude))) (stepOf latitude)
+        ltb-false (natAbs (north -ℤ minute *ℤ pos oneMinute)) oneMinute
         (sym (past false (nearRow minute north) l) ∙ sym (past false (need (longitudeKnown s west) false (nearRow minute north)) k) ∙ e)
 
     -- and of a plane point: it is far, or beyond what the first row's y0, or the last row's, can reach
@@ -289,10 +290,10 @@ module _ (s : List ℕ) (passes : Passes s) (minute : ℤ) (f : Figures) where
     prior-stays reduced e = pick (decLt 0 r)
       where
         pick : Dec (0 < r) → Stays reduced
-        pick (yes h) = inl (inl (h, not-below-of (y0Of s (r - 1)) reduced (sym (where-below 0 r (ltZ (y0Of s (r - 1)) reduced) (leZ (y0Of s (r + 1) -ℤ pos 615_000) reduced) h) ∙ e)))
+        pick (yes h) = inl (inl (h, not-below-of (y0Of s (r - 1)) reduced (sym (where-below 0 r (ltZ (y0Of s (r - 1)) reduced) (leZ (y0Of s (r + 1) -ℤ pos mostRise) reduced) h) ∙ e)))
         pick (no h) =
             let first : r ≡ 0 = omega arith in
-            let below = sym (where-beyond 0 r (ltZ (y0Of s (r - 1)) reduced) (leZ (y0Of s (r + 1) -ℤ pos 615_000) reduced) (omega arith)) ∙ e in
+            let below = sym (where-beyond 0 r (ltZ (y0Of s (r - 1)) reduced) (leZ (y0Of s (r + 1) -ℤ pos mostRise) reduced) (omega arith)) ∙ e in
             inr (below-first s ok reduced (rw first at below), below-first t ok′ reduced (rw (y0-row-same s t r beside 1 (λ q. omega arith)) (rw first at below)))
 
     next-stays : (reduced : ℤ) → belowNext s r reduced ≡ false → Stays reduced
@@ -301,11 +302,11 @@ module _ (s : List ℕ) (passes : Passes s) (minute : ℤ) (f : Figures) where
       where
         pick : Dec (r + 1 < n) → Stays reduced
         pick (yes h) =
-            inl (inr (h, not-below-of reduced (y0Of s (r + 1)) (sym (where-below (r + 1) n (ltZ reduced (y0Of s (r + 1))) (leZ reduced (y0Of s (r - 1) +ℤ pos 615_000)) h) ∙ e)))
+            inl (inr (h, not-below-of reduced (y0Of s (r + 1)) (sym (where-below (r + 1) n (ltZ reduced (y0Of s (r + 1))) (leZ reduced (y0Of s (r - 1) +ℤ pos mostRise)) h) ∙ e)))
         pick (no h) =
             let last : r ≡ n - 1 = omega (arith, there has) in
             let before : r - 1 ≡ n - 2 = omega arith in
-            let above = sym (where-beyond (r + 1) n (ltZ reduced (y0Of s (r + 1))) (leZ reduced (y0Of s (r - 1) +ℤ pos 615_000)) (omega arith)) ∙ e in
+            let above = sym (where-beyond (r + 1) n (ltZ reduced (y0Of s (r + 1))) (leZ reduced (y0Of s (r - 1) +ℤ pos mostRise)) (omega arith)) ∙ e in
             let above′ = rw before at above in
             inr (above-last s ok reduced above′, above-last t ok′ reduced (rw (latitude-rows s t r beside, y0-row-same s t r beside (n - 2) (λ q. omega (arith, two-rows s ok))) above′))
 
@@ -328,7 +329,7 @@ module _ (s : List ℕ) (passes : Passes s) (minute : ℤ) (f : Figures) where
     has-new : hasMinute t minute ≡ true
     unfolding hasRow fromFirstMinute
     has-new =
-        rw (latitude-body s z r f, latitude-rows s t r beside, minutes-stay b n r f 0, minutes-stay b n r f (natAbs (minute -ℤ wordAt b (8 * 0)))) has
+        rw (latitude-body s z r f, latitude-rows s t r beside, minutes-stay b n r f 0, minutes-stay b n r f (natAbs (minute -ℤ wordAt b (widthOf latitude * 0)))) has
 
     pub row-new : rowNamed t minute ≡ r
     unfolding fromFirstMinute
@@ -346,9 +347,9 @@ module _ (s : List ℕ) (passes : Passes s) (minute : ℤ) (f : Figures) where
         next = y0-row-same s t r beside (r + 1) (λ e. omega arith)
 
         least : Bool
-        least = leZ (y0Of s (r + 1) -ℤ pos 615_000) reduced
+        least = leZ (y0Of s (r + 1) -ℤ pos mostRise) reduced
 
-        pick : Dec (0 < r) → whereBelow 0 r (ltZ (y0Of t (r - 1)) reduced) (leZ (y0Of t (r + 1) -ℤ pos 615_000) reduced) ≡ whereBelow 0 r (ltZ (y0Of s (r - 1)) reduced) least
+        pick : Dec (0 < r) → whereBelow 0 r (ltZ (y0Of t (r - 1)) reduced) (leZ (y0Of t (r + 1) -ℤ pos mostRise) reduced) ≡ whereBelow 0 r (ltZ (y0Of s (r - 1)) reduced) least
         pick (yes h) = rw (y0-row-same s t r beside (r - 1) (λ e. omega arith), next)
         pick (no h) = rw next (where-beyond 0 r (ltZ (y0Of t (r - 1)) reduced) least (omega arith) ∙ sym (where-beyond 0 r (ltZ (y0Of s (r - 1)) reduced) least (omega arith)))
 
@@ -360,12 +361,12 @@ module _ (s : List ℕ) (passes : Passes s) (minute : ℤ) (f : Figures) where
         next = y0-row-same s t r beside (r + 1) (λ e. omega arith)
 
         pick : Dec (r + 1 < n)
-            → whereBelow (r + 1) (rowsOf t latitude) (ltZ reduced (y0Of t (r + 1))) (leZ reduced (y0Of t (r - 1) +ℤ pos 615_000))
-            ≡ whereBelow (r + 1) n (ltZ reduced (y0Of s (r + 1))) (leZ reduced (y0Of s (r - 1) +ℤ pos 615_000))
+            → whereBelow (r + 1) (rowsOf t latitude) (ltZ reduced (y0Of t (r + 1))) (leZ reduced (y0Of t (r - 1) +ℤ pos mostRise))
+            ≡ whereBelow (r + 1) n (ltZ reduced (y0Of s (r + 1))) (leZ reduced (y0Of s (r - 1) +ℤ pos mostRise))
         pick (yes h) =
             rw (latitude-rows s t r beside, next)
-            (where-below (r + 1) n (ltZ reduced (y0Of s (r + 1))) (leZ reduced (y0Of t (r - 1) +ℤ pos 615_000)) h
-            ∙ sym (where-below (r + 1) n (ltZ reduced (y0Of s (r + 1))) (leZ reduced (y0Of s (r - 1) +ℤ pos 615_000)) h))
+            (where-below (r + 1) n (ltZ reduced (y0Of s (r + 1))) (leZ reduced (y0Of t (r - 1) +ℤ pos mostRise)) h
+            ∙ sym (where-below (r + 1) n (ltZ reduced (y0Of s (r + 1))) (leZ reduced (y0Of s (r - 1) +ℤ pos mostRise)) h))
         pick (no h) = rw (latitude-rows s t r beside, next, y0-row-same s t r beside (r - 1) (λ e. omega (arith, two-rows s ok)))
 
     inverse-says : (x y : ℤ) → inverseTouched t (rowNamed t minute) x y ≡ inverseTouched s r x y

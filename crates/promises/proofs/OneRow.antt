@@ -2,22 +2,21 @@
 use mathlib.Core.Path.{_≡_, refl, sym, ap, _∙_}
 use mathlib.Core.Bool.{true}
 use mathlib.Core.List.{List}
-use Prim.Native.Nat.{ℕ, _+_, _*_, _<_, _≤_}
+use Prim.Native.Nat.{ℕ, _+_, _*_, _<_}
 use native.Mathlib.Decide.{ℕ-discrete}
 use native.Mathlib.Omega.{arith}
 use lib.IntN.{ℤ}
-use lib.ListN.{length, getD}
 use Rattle.words.specs.Words.{wordAt}
 use Rattle.words.specs.Parts.{partOf}
 use Rattle.words.proofs.Refusals.{is-not}
 use Rattle.words.proofs.PartWords.{wordAt-partOf}
-use Rattle.entries.specs.Layout.{latitude}
+use Rattle.entries.specs.Layout.{latitude, widthOf}
 use Rattle.entries.specs.Entries.{startOf, rowsOf, bodyOf}
 use Rattle.contents.specs.Contents.{numberOf, contentsOf}
 use Rattle.rules.specs.declared.Figures.{Figures}
 use Rattle.rows.specs.Rows.{figuresAt, rowAt}
 use Rattle.bodies.specs.Check.{checkOf}
-use Rattle.tables.proofs.Parts.{contents-none}
+use Rattle.bodies.proofs.Known.{contents-none}
 use Rattle.correct.specs.Correction.{rewritten, correctionOf, correctedOf, withRow}
 use Rattle.correct.proofs.RowWords.{FiguresFit, figures-fit}
 use Rattle.correct.proofs.Rewritten.{figures-new}
@@ -27,10 +26,10 @@ use Rattle.touched.specs.Touched.{hasMinute, rowNamed}
 use Rattle.corrected.proofs.WithRow.{length-stays, body-long, latitude-body}
 use Rattle.corrected.proofs.WholeCheck.{must-range, must-before, must-after}
 use Rattle.judge.proofs.Minutes.{each-named}
-use Rattle.corrected.proofs.OnlyRow.{row-keeps, start-kept, rows-kept, minute-kept, figures-range, only-row}
+use Rattle.corrected.proofs.OnlyRow.{row-keeps, start-kept, body-kept, minute-kept, figures-range, only-row}
 use Rattle.corrected.proofs.StillBytes.{still-bytes}
-use Rattle.promises.specs.Corrections.{Passes, Words, putIn}
-use Rattle.promises.specs.OneRow.{wordOf, minuteIn, figuresIn, ButFor, Bytes, Reaches, ReachesRows, RefusedStays}
+use Rattle.promises.specs.Corrections.{Passes, putIn}
+use Rattle.promises.specs.OneRow.{minuteIn, figuresIn, ButFor, Bytes, Reaches, ReachesRows, RefusedStays}
 use Rattle.promises.proofs.Corrections.{words-fit, writes, only-then}
 
 pub refused-stays : RefusedStays
@@ -44,6 +43,10 @@ module _ (s : List ℕ) (passes : Passes s) (r : ℕ) (there : r < rowsOf s lati
   abbrev n : ℕ
   n = rowsOf s latitude
 
+  -- words in a latitude row
+  abbrev width : ℕ
+  width = widthOf latitude
+
   abbrev minute : ℤ
   minute = minuteIn s r
 
@@ -54,17 +57,18 @@ module _ (s : List ℕ) (passes : Passes s) (r : ℕ) (there : r < rowsOf s lati
   z = contents-none s ok
 
   -- ---- a word of row r's, in the sheet and in its body
-  in-body : (t : List ℕ) (k : ℕ) → k < 8 → wordAt (partOf t a (n * 8)) (8 * r + k) ≡ wordAt t (a + 8 * r + k)
+  in-body : (t : List ℕ) (k : ℕ) → k < width → wordAt (partOf t a (n * width)) (width * r + k) ≡ wordAt t (a + width * r + k)
   in-body t k h =
-      let at : a + (8 * r + k) ≡ a + 8 * r + k = omega arith in
-      wordAt-partOf t a (n * 8) (8 * r + k) (omega arith) ∙ ap (wordAt t) at
+      let at : a + (width * r + k) ≡ a + width * r + k = omega arith in
+      wordAt-partOf t a (n * width) (width * r + k) (omega arith) ∙ ap (wordAt t) at
 
   minute-is : rowAt (bodyOf s latitude) r .minute ≡ minute
+  unfolding bodyOf
   minute-is =
-      let at : 8 * r + 0 ≡ 8 * r = omega arith in
+      let at : width * r + 0 ≡ width * r = omega arith in
       rw at at (in-body s 0 (omega arith))
 
-  figures-are : (t : List ℕ) → startOf t latitude ≡ a → figuresIn t r ≡ figuresAt (partOf t a (n * 8)) r
+  figures-are : (t : List ℕ) → startOf t latitude ≡ a → figuresIn t r ≡ figuresAt (partOf t a (n * width)) r
   unfolding figuresAt
   figures-are t e = rw (e, in-body t 1 (omega arith), in-body t 3 (omega arith), in-body t 5 (omega arith), in-body t 7 (omega arith))
 
@@ -86,8 +90,7 @@ module _ (s : List ℕ) (passes : Passes s) (r : ℕ) (there : r < rowsOf s lati
       let t = putIn s minute f in
       let but : ButFor s t r = put-in f in
       let start : startOf t latitude ≡ a = start-kept s z t r there (but .long) (but .others) in
-      let rows : rowsOf t latitude ≡ n = rows-kept s z t r there (but .long) (but .others) in
-      let body : bodyOf t latitude ≡ partOf t a (n * 8) = rw (start, rows) in
+      let body : bodyOf t latitude ≡ partOf t a (n * width) = body-kept s z t r there (but .long) (but .others) in
       let new : bodyOf t latitude ≡ rewritten (bodyOf s latitude) n r f = rw (put-is f) (latitude-body s z r f) in
       figures-are t start
       ∙ ap (λ (u : List ℕ). figuresAt u r) (sym body ∙ new)
@@ -95,7 +98,7 @@ module _ (s : List ℕ) (passes : Passes s) (r : ℕ) (there : r < rowsOf s lati
 
   same-minute : (t : List ℕ) → ButFor s t r → minuteIn t r ≡ minute
   same-minute t but =
-      let at : a + 8 * r + 0 ≡ a + 8 * r = omega arith in
+      let at : a + width * r + 0 ≡ a + width * r = omega arith in
       rw (start-kept s z t r there (but .long) (but .others), at) (minute-kept s z t r there (but .long) (but .others))
 
   keeps-minute : (f : Figures) → minuteIn (correctedOf s minute f) r ≡ minute
@@ -122,7 +125,7 @@ module _ (s : List ℕ) (passes : Passes s) (r : ℕ) (there : r < rowsOf s lati
     abbrev f : Figures
     f = figuresIn t r
 
-    f-is : f ≡ figuresAt (partOf t a (n * 8)) r
+    f-is : f ≡ figuresAt (partOf t a (n * width)) r
     f-is = figures-are t (start-kept s z t r there (but .long) (but .others))
 
     written : withRow s r f ≡ t

@@ -17,7 +17,7 @@ use Rattle.rows.specs.Rows.{figuresAt}
 use Rattle.bodies.specs.Check.{checkOf}
 use Rattle.convert.specs.Conversions.{geographicToPlane, planeToGeographic, convergenceAndScale}
 use Rattle.judge.specs.Judge.{fromFirstMinute, namedRow, hasRow}
-use Rattle.correct.specs.Correction.{correctionOf, correctedOf}
+use Rattle.correct.specs.Correction.{correctionOf}
 use Rattle.touched.specs.Touched.{touch, hasMinute, rowNamed, geographicTouched, planeTouched}
 use Rattle.asked.specs.declared.Line.{Line}
 use Rattle.lines.specs.Lines.{planeValues, geographicValues, valuesOf}
@@ -145,6 +145,7 @@ module _ (s : List ℕ) (passes : Passes s) (minute : ℤ) (f : Figures) (accept
     all-beside k =
         record {
           rows = beside .rows;
+          steps = beside .steps;
           bodies = beside .bodies;
           minute = beside .minute;
           y0 = λ i h. ap (λ (g : Figures). g .y0) (all-figures i);

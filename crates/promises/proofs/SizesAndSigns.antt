@@ -15,12 +15,12 @@ use Rattle.bodies.specs.Check.{checkOf}
 use Rattle.tables.specs.Figures.{centralMeridian, hAt, aAt, bAt}
 use Rattle.tables.proofs.Ranges.{central-size}
 use Rattle.extent.specs.Extent.{fromFirst, latitudeKnown, lOf, longitudeKnown, sizeKnown, eastingKnown, reducedKnown}
-use Rattle.extent.proofs.Reach.{latitude-reach, longitude-reach, easting-reach, size-reach, longitude-span}
+use Rattle.extent.proofs.Reach.{latitude-within, longitude-within, easting-within, size-reach, longitude-span}
 use Rattle.forward.specs.Forward.{xSize}
 use Rattle.inverse.specs.Inverse.{distanceOf, approximateOf, sizeOf, longitudeOf}
 use Rattle.forward.proofs.Eastings.{x-not-negative}
 use Rattle.inverse.proofs.Longitudes.{l-not-negative}
-use Rattle.inverse.proofs.Distances.{distance-most}
+use Rattle.inverse.proofs.Distances.{distance-within}
 
 -- the nearest to a number that is not negative is not negative, nor is a multiple
 nearest-nonNeg : (z : ℤ) (d : ℕ) → T (nonNeg z) → T (nonNeg (nearest z d))
@@ -46,7 +46,7 @@ module _ (s : List ℕ) (passes : checkOf s .number ≡ 0) where
   -- ---- geographic to plane: H·s + a·b, in 10⁻⁹ ft, and the size of x′
   module _ (north west : ℤ) (known : latitudeKnown s north ≡ true) (there : longitudeKnown s west ≡ true) where
     pub sum-of-x : let t = natAbs (fromFirst s north) in let size = natAbs (lOf s west) in T (nonNeg (pos (hAt s t * size) +ℤ aAt s t *ℤ bAt s size *ℤ pos 1_000))
-    sum-of-x = x-not-negative s passes (natAbs (fromFirst s north)) (latitude-reach s north known .high) (natAbs (lOf s west)) (longitude-reach s west there)
+    sum-of-x = x-not-negative s passes (natAbs (fromFirst s north)) (latitude-within s passes north known) (natAbs (lOf s west)) (longitude-within s west there)
 
     pub size-of-x : T (nonNeg (xSize s (natAbs (fromFirst s north)) (natAbs (lOf s west))))
     unfolding xSize sizeOfX
@@ -62,7 +62,7 @@ module _ (s : List ℕ) (passes : checkOf s .number ≡ 0) where
 
     module _ (there : sizeKnown s (pos approximate) ≡ true) where
       pub difference-of-l : T (nonNeg (pos (natAbs xp * 10_000) -ℤ aAt s t *ℤ bAt s approximate))
-      difference-of-l = l-not-negative s passes (natAbs xp) t (easting-reach s xp easting) (distance-most s passes reduced northing) there
+      difference-of-l = l-not-negative s passes (natAbs xp) t (easting-within s xp easting) (distance-within s passes reduced northing) there
 
       pub size-of-l : T (nonNeg (sizeOf s (natAbs xp) t))
       unfolding sizeOf sizeOfL

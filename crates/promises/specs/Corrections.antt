@@ -9,7 +9,7 @@ use lib.IntN.{ℤ, pos, negℤ, natAbs, _-ℤ_, _*ℤ_}
 use lib.ListN.{length, getD}
 use lib.Signed.{leZ}
 use Rattle.words.specs.Ladder.{need}
-use Rattle.entries.specs.Layout.{latitude, stepOf}
+use Rattle.entries.specs.Layout.{latitude, widthOf, oneMinute}
 use Rattle.entries.specs.Entries.{startOf, rowsOf, bodyOf}
 use Rattle.contents.specs.Contents.{verdict}
 use Rattle.rules.specs.declared.Figures.{Figures}
@@ -48,7 +48,7 @@ putIn s minute f = withRow s (rowNamed s minute) f
 
 -- Outside the two intervals beside the row: the latitude lies a minute or more from the row's.
 abbrev pub FarLatitude : ℤ → ℤ → Type 0
-FarLatitude minute north = stepOf latitude ≤ natAbs (north -ℤ minute *ℤ pos (stepOf latitude))
+FarLatitude minute north = oneMinute ≤ natAbs (north -ℤ minute *ℤ pos oneMinute)
 
 -- The same of a plane point, judged by its reduced northing: at or below y0 of the row before, or at or above y0 of the row after, where there is one. What 12 or 13 refuses has no
 -- reduced northing, and counts as outside.
@@ -82,7 +82,7 @@ pub record Corrects (s : List ℕ) (minute : ℤ) (f : Figures) : Type 0 where
   pub writes : correctionOf s minute f ≡ 0 → correctedOf s minute f ≡ putIn s minute f
   pub stays : (correctionOf s minute f ≡ 0 → ⊥) → correctedOf s minute f ≡ s
   -- "all other bytes stay": every byte q but those of the minute's row and of the row before it, where there is one.
-  pub other-bytes : (q : ℕ) → (q < 4 * (startOf s latitude + 8 * (rowNamed s minute - 1))) ⊎ (4 * (startOf s latitude + 8 * rowNamed s minute + 8) ≤ q)
+  pub other-bytes : (q : ℕ) → (q < 4 * (startOf s latitude + widthOf latitude * (rowNamed s minute - 1))) ⊎ (4 * (startOf s latitude + widthOf latitude * rowNamed s minute + widthOf latitude) ≤ q)
       → getD (correctedOf s minute f) q 0 ≡ getD s q 0
 
 -- ---- after a correction that was accepted

@@ -7,7 +7,7 @@ use Prim.Native.Nat.{ℕ, _+_, _-_, _*_, _/_, _<_, _≤_}
 use lib.IntN.{ℤ}
 use lib.ListN.{length, getD}
 use Rattle.words.specs.Words.{wordAt}
-use Rattle.entries.specs.Layout.{latitude}
+use Rattle.entries.specs.Layout.{latitude, widthOf}
 use Rattle.entries.specs.Entries.{startOf, rowsOf}
 use Rattle.rules.specs.declared.Figures.{Figures}
 use Rattle.correct.specs.Correction.{figures, correctionOf, correctedOf}
@@ -15,7 +15,7 @@ use Rattle.promises.specs.Corrections.{Passes, Words, putIn}
 
 -- "minute; y0; Δy; H; ΔH; V; ΔV; a": the word of column k, 0 to 7, in row i.
 abbrev pub wordOf : List ℕ → ℕ → ℕ → ℕ
-wordOf s i k = startOf s latitude + 8 * i + k
+wordOf s i k = startOf s latitude + widthOf latitude * i + k
 
 -- "It gives a minute and new y0, H, V, a": those that row r has.
 abbrev pub minuteIn : List ℕ → ℕ → ℤ

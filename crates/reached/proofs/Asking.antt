@@ -9,6 +9,7 @@ use borrow.Author.Tests.{not-true, not-false}
 use lib.IntN.{ℤ, pos, natAbs}
 use mir.Syntax.{w32}
 use mir.Val.{toZ}
+use Rattle.entries.specs.Layout.{oneMinute}
 use Rattle.figures.proofs.Holds.{held-size}
 use Rattle.words.proofs.Refusals.{is, is-not}
 use Rattle.bodies.specs.Check.{checkOf}
@@ -21,11 +22,11 @@ use Rattle.reached.specs.Reached.{touches, reaches, planeMinute, lowerMi
 use Rattle.reached.proofs.TwoMinutes.{only-two}
 
 -- ---- the lower minute
-pub minutes-most : (n k : ℕ) → n ≤ k * 60_000 → n / 60_000 ≤ k
-minutes-most n k h = omega (arith, div-add-mod' n 60_000)
+pub minutes-most : (n k : ℕ) → n ≤ k * oneMinute → n / oneMinute ≤ k
+minutes-most n k h = omega (arith, div-add-mod' n oneMinute)
 
 module _ (s : List ℕ) (l : Line) where
-  pub forward-lower : l .form ≡ 71 → (n : ℕ) → n ≡ natAbs (l .first) → n / 60_000 ≡ lowerMinute s l
+  pub forward-lower : l .form ≡ 71 → (n : ℕ) → n ≡ natAbs (l .first) → n / oneMinute ≡ lowerMinute s l
   unfolding lowerMinute
   forward-lower f n e = is (l .form) 71 _ _ _ f (rw e)
 

@@ -18,7 +18,8 @@ use Rattle.figures.proofs.Tests.{both, never}
 use Rattle.figures.proofs.Order.{above-of, not-above-of, not-below-of, ltZ-le, ltZ-leZ, leZ-trans, heights-le}
 use Rattle.words.specs.Ladder.{need, whereIs}
 use Rattle.words.proofs.Refusals.{where-below}
-use Rattle.entries.specs.Layout.{latitude}
+use Rattle.rules.specs.Latitude.{leastRise, mostRise}
+use Rattle.entries.specs.Layout.{latitude, oneMinute}
 use Rattle.entries.specs.Entries.{rowsOf, bodyOf}
 use Rattle.rows.specs.Rows.{rowAt}
 use Rattle.bodies.specs.Check.{checkOf}
@@ -49,16 +50,16 @@ touch-true true b h = (refl, h)
 touch-true false b h = never h
 
 -- ---- of numbers: m steps lie less than a step from n
-near-two : (n m : ℕ) → natAbs (pos n -ℤ pos (m * 60_000)) < 60_000 → (m ≡ n / 60_000) ⊎ (m ≡ n / 60_000 + 1)
-near-two n m h = pick (decLe (m * 60_000) n)
+near-two : (n m : ℕ) → natAbs (pos n -ℤ pos (m * oneMinute)) < oneMinute → (m ≡ n / oneMinute) ⊎ (m ≡ n / oneMinute + 1)
+near-two n m h = pick (decLe (m * oneMinute) n)
   where
-    pick : Dec (m * 60_000 ≤ n) → (m ≡ n / 60_000) ⊎ (m ≡ n / 60_000 + 1)
+    pick : Dec (m * oneMinute ≤ n) → (m ≡ n / oneMinute) ⊎ (m ≡ n / oneMinute + 1)
     pick (yes l) =
-        let size : natAbs (pos n -ℤ pos (m * 60_000)) ≡ n - m * 60_000 = ap natAbs (pos-minus n (m * 60_000) ∙ subℕ-le l) in
-        inl (omega (arith, size, div-add-mod' n 60_000, mod-lt n {m = 60_000} (lit< tt)))
+        let size : natAbs (pos n -ℤ pos (m * oneMinute)) ≡ n - m * oneMinute = ap natAbs (pos-minus n (m * oneMinute) ∙ subℕ-le l) in
+        inl (omega (arith, size, div-add-mod' n oneMinute, mod-lt n {m = oneMinute} (lit< tt)))
     pick (no l) =
-        let size : natAbs (pos n -ℤ pos (m * 60_000)) ≡ suc (m * 60_000 - suc n) = ap natAbs (pos-minus n (m * 60_000) ∙ subℕ-lt (omega arith)) in
-        inr (omega (arith, size, div-add-mod' n 60_000, mod-lt n {m = 60_000} (lit< tt)))
+        let size : natAbs (pos n -ℤ pos (m * oneMinute)) ≡ suc (m * oneMinute - suc n) = ap natAbs (pos-minus n (m * oneMinute) ∙ subℕ-lt (omega arith)) in
+        inr (omega (arith, size, div-add-mod' n oneMinute, mod-lt n {m = oneMinute} (lit< tt)))
 
 -- ---- of a column that rises by least or more
 module _ (f : ℕ → ℤ) (n least most : ℕ) (some : 0 < least) (rises : RisesBy f n least most) (z : ℤ) where
@@ -114,7 +115,7 @@ module _ (s : List ℕ) (ok : checkOf s .number ≡ 0) where
 
   first-minute : firstMinute s ≡ natAbs first
   unfolding firstLatitude
-  first-minute = ap (λ (x : ℕ). x / 60_000) (size-product first (pos 60_000)) ∙ mul-div-cancel (natAbs first) (lit< tt)
+  first-minute = ap (λ (x : ℕ). x / oneMinute) (size-product first (pos oneMinute)) ∙ mul-div-cancel (natAbs first) (lit< tt)
 
   -- a row's minute counts on from the first
   minute-is : (minute : ℤ) → hasMinute s minute ≡ true → minute ≡ pos (rowNamed s minute + natAbs first)
@@ -124,15 +125,15 @@ module _ (s : List ℕ) (ok : checkOf s .number ≡ 0) where
       ∙ ap (λ (x : ℤ). x +ℤ first) (row-size b n minute has .is)
       ∙ ap (λ (x : ℤ). pos (rowNamed s minute) +ℤ x) first-is
 
-  north-is : (north : ℤ) → latitudeKnown s north ≡ true → north ≡ pos (natAbs (fromFirst s north) + natAbs first * 60_000)
+  north-is : (north : ℤ) → latitudeKnown s north ≡ true → north ≡ pos (natAbs (fromFirst s north) + natAbs first * oneMinute)
   unfolding fromFirst firstLatitude
   north-is north known =
-      sym (-ℤ-+ℤ-cancel north (first *ℤ pos 60_000))
-      ∙ ap (λ (x : ℤ). x +ℤ first *ℤ pos 60_000) (latitude-reach s north known .is)
-      ∙ ap (λ (x : ℤ). pos (natAbs (north -ℤ first *ℤ pos 60_000)) +ℤ x *ℤ pos 60_000) first-is
+      sym (-ℤ-+ℤ-cancel north (first *ℤ pos oneMinute))
+      ∙ ap (λ (x : ℤ). x +ℤ first *ℤ pos oneMinute) (latitude-reach s north known .is)
+      ∙ ap (λ (x : ℤ). pos (natAbs (north -ℤ first *ℤ pos oneMinute)) +ℤ x *ℤ pos oneMinute) first-is
 
   -- ---- a geographic point
-  geographic-two : (minute north west : ℤ) → geographicTouched s minute north west .touched ≡ true → (minute ≡ pos (natAbs north / 60_000)) ⊎ (minute ≡ pos (natAbs north / 60_000 + 1))
+  geographic-two : (minute north west : ℤ) → geographicTouched s minute north west .touched ≡ true → (minute ≡ pos (natAbs north / oneMinute)) ⊎ (minute ≡ pos (natAbs north / oneMinute + 1))
   unfolding geographicTouched forwardTouched nearRow
   geographic-two minute north west h =
       let found = touch-true (hasMinute s minute) _ (ap (λ t. t .touched) (sym (after-pass (λ t. t .number) noTouch (λ n. refl) s _ ok)) ∙ h) in
@@ -141,17 +142,17 @@ module _ (s : List ℕ) (ok : checkOf s .number ≡ 0) where
       let m = minute-is minute (found .0) in
       let d = natAbs (fromFirst s north) in
       let at = north-is north (known .0) in
-      let size : natAbs north ≡ d + natAbs first * 60_000 = ap natAbs at in
-      let apart : natAbs (north -ℤ minute *ℤ pos 60_000) ≡ natAbs (pos (d + natAbs first * 60_000) -ℤ pos ((rowNamed s minute + natAbs first) * 60_000)) =
-      both-same (λ (x y : ℤ). natAbs (x -ℤ y *ℤ pos 60_000)) at m in
-      ⊎-elim (λ e. inl (m ∙ ap pos (e ∙ ap (λ (x : ℕ). x / 60_000) (sym size)))) (λ e. inr (m ∙ ap pos (e ∙ ap (λ (x : ℕ). x / 60_000 + 1) (sym size))))
-      (near-two (d + natAbs first * 60_000) (rowNamed s minute + natAbs first) (rw apart at (ltb-true (natAbs (north -ℤ minute *ℤ pos 60_000)) 60_000 (near .1))))
+      let size : natAbs north ≡ d + natAbs first * oneMinute = ap natAbs at in
+      let apart : natAbs (north -ℤ minute *ℤ pos oneMinute) ≡ natAbs (pos (d + natAbs first * oneMinute) -ℤ pos ((rowNamed s minute + natAbs first) * oneMinute)) =
+      both-same (λ (x y : ℤ). natAbs (x -ℤ y *ℤ pos oneMinute)) at m in
+      ⊎-elim (λ e. inl (m ∙ ap pos (e ∙ ap (λ (x : ℕ). x / oneMinute) (sym size)))) (λ e. inr (m ∙ ap pos (e ∙ ap (λ (x : ℕ). x / oneMinute + 1) (sym size))))
+      (near-two (d + natAbs first * oneMinute) (rowNamed s minute + natAbs first) (rw apart at (ltb-true (natAbs (north -ℤ minute *ℤ pos oneMinute)) oneMinute (near .1))))
 
   -- ---- a plane point
   beside-two : (r : ℕ) (z : ℤ) → r < n → abovePrior s r z && belowNext s r z ≡ true → (r ≡ rowOf s z) ⊎ (r ≡ rowOf s z + 1)
   unfolding abovePrior belowNext rowOf
   beside-two r z l h =
-      row-two (y0Of s) n 600_000 615_000 (lit< tt) (y0-rises s ok) z r l
+      row-two (y0Of s) n leastRise mostRise (lit< tt) (y0-rises s ok) z r l
       (λ q. sym (where-below 0 r _ _ q) ∙ both (abovePrior s r z) (belowNext s r z) h .0)
       (λ q. sym (where-below (r + 1) n _ _ q) ∙ both (abovePrior s r z) (belowNext s r z) h .1)
 
@@ -174,7 +175,7 @@ module _ (s : List ℕ) (ok : checkOf s .number ≡ 0) where
   module _ (z z′ y : ℤ) (same : z′ ≡ z) (read : y ≡ y0Of s 0) where
     pub none-below-it : ltZ z′ y ≡ true → 0 ≡ rowOf s z
     unfolding rowOf
-    none-below-it h = first-above (y0Of s) n 600_000 615_000 (lit< tt) (y0-rises s ok) z (rw (same, read) at h)
+    none-below-it h = first-above (y0Of s) n leastRise mostRise (lit< tt) (y0-rises s ok) z (rw (same, read) at h)
 
     pub some-below-it : ltZ z′ y ≡ false → leZ (y0Of s 0) z′ ≡ true
     some-below-it h = not-below-of z′ (y0Of s 0) (rw read at h)
@@ -185,7 +186,7 @@ module _ (s : List ℕ) (ok : checkOf s .number ≡ 0) where
   only-two l minute h = by-form (eqb (l .form) 71) (eqb (l .form) 80) h
     where
       by-form : (g p : Bool) → cond g (geographicTouched s minute (l .first) (l .second) .touched) (cond p (planeTouched s minute (l .first) (l .second) .touched) false) ≡ true
-          → (minute ≡ pos (cond g (natAbs (l .first) / 60_000) (cond p (planeMinute s (l .first) (l .second)) 0))) ⊎ (minute ≡ pos (cond g (natAbs (l .first) / 60_000) (cond p (planeMinute s (l .first) (l .second)) 0) + 1))
+          → (minute ≡ pos (cond g (natAbs (l .first) / oneMinute) (cond p (planeMinute s (l .first) (l .second)) 0))) ⊎ (minute ≡ pos (cond g (natAbs (l .first) / oneMinute) (cond p (planeMinute s (l .first) (l .second)) 0) + 1))
       by-form true p h = geographic-two minute (l .first) (l .second) h
       by-form false true h = plane-two minute (l .first) (l .second) h
       by-form false false h = never h

@@ -4,7 +4,7 @@ use mathlib.Core.List.{List}
 use Prim.Native.Nat.{ℕ, _+_, _/_}
 use lib.IntN.{ℤ, natAbs}
 use Rattle.words.specs.Ladder.{need, whereIs}
-use Rattle.entries.specs.Layout.{latitude, stepOf}
+use Rattle.entries.specs.Layout.{oneMinute}
 use Rattle.tables.specs.Figures.{firstLatitude}
 use Rattle.extent.specs.Extent.{xPrime, eastingKnown, northingKnown}
 use Rattle.inverse.specs.Inverse.{reducedNorthing, rowOf}
@@ -29,7 +29,7 @@ reaches s t l minutes = anyOf (eitherTouches s t l) minutes
 
 -- ---- the two minutes that are asked: none touches the line but `lowerMinute` and the one after it (`proofs/TwoMinutes.antt`)
 abbrev pub firstMinute : List ℕ → ℕ
-firstMinute s = natAbs (firstLatitude s) / stepOf latitude
+firstMinute s = natAbs (firstLatitude s) / oneMinute
 
 -- Of a plane point: the minute of the last row with y0 not above its reduced northing, the first row's where there is none. What 12 or 13 refuses no row touches.
 unfoldable pub planeMinute : List ℕ → ℤ → ℤ → ℕ
@@ -41,6 +41,6 @@ planeMinute s x y =
 -- Of a geographic point: the whole minutes of its latitude, which is not negative where 10 does not refuse it.
 unfoldable pub lowerMinute : List ℕ → Line → ℕ
 lowerMinute s l =
-    whereIs (l .form) 71 (natAbs (l .first) / stepOf latitude)
+    whereIs (l .form) 71 (natAbs (l .first) / oneMinute)
     (whereIs (l .form) 80 (planeMinute s (l .first) (l .second))
     0)

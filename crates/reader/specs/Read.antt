@@ -5,8 +5,8 @@ use lib.Dec.{leb, ltb}
 use lib.ListN.{length}
 use Rattle.words.specs.Words.{unsignedAt}
 use Rattle.words.specs.Ladder.{need}
-use Rattle.entries.specs.Layout.{entryCount, entryWords}
-use Rattle.entries.specs.Entries.{kindAt, startAt, rowsAt}
+use Rattle.entries.specs.Layout.{entryWords, firstEntry}
+use Rattle.entries.specs.Entries.{kindAt, startAt, rowsAt, formOf}
 use Rattle.reader.specs.declared.Entry.{Entry}
 use Rattle.reader.specs.declared.Entry.the-variants.{Of, End}
 
@@ -17,10 +17,10 @@ entryAt s place =
     need (leb (4 * (place + entryWords)) (length s)) End
     (Of (unsignedAt s place) (unsignedAt s (place + 1)) (unsignedAt s (place + 2)))
 
--- "Six entries follow": entry e, counted from 0, by the words that the check reads; word 0 is not looked at. The end past the last, and where the sheet has no three words
--- there.
+-- "Six entries follow": entry e, counted from 0, of the form that word 0 names, by the words that the check reads. A word 0 that names no form is not refused here. The end past the
+-- last entry, and where the sheet has no three words there.
 unfoldable pub entryNumbered : List ℕ → ℕ → Entry
 entryNumbered s e =
-    need (ltb e entryCount) End
-    (need (leb (4 * (entryWords * e + 1 + entryWords)) (length s)) End
-    (Of (kindAt s e) (startAt s e) (rowsAt s e)))
+    need (ltb e (formOf s .kinds)) End
+    (need (leb (4 * (formOf s .words * e + firstEntry + entryWords)) (length s)) End
+    (Of (kindAt (formOf s) s e) (startAt (formOf s) s e) (rowsAt (formOf s) s e)))

@@ -1,6 +1,7 @@
 // The reader of contents: it keeps the lent sheet and its place, a word number, as one small value. Each function over it takes it apart and leaves the work to a
 // function on the slice and the number.
 ghost use mathlib.Core.Path.{_≡_};
+ghost use Rattle.entries.specs.Layout.{firstEntry};
 ghost use Rattle.reader.specs.Read.{entryAt, entryNumbered};
 
 // The lent sheet, and the word at which the next entry is read.
@@ -15,22 +16,15 @@ pub enum Entry {
     End,
 }
 
-// The contents' entries: how many, the words of one, and the word of the first.
-const ENTRIES: usize = 6;
-
-const ENTRY_WORDS: usize = 3;
-
-const FIRST_ENTRY: usize = 1;
-
 // The entry whose first word is at the place.
 pub fn entry_at(s: &[u8], place: usize) -> Entry
     ensures { λ r. ⌜ r ≡ entryAt (now (s .entry)) place ⌝ }
 {
     let n = s.len() / 4;
-    if n < ENTRY_WORDS {
+    if n < entries::ENTRY_WORDS {
         return Entry::End;
     }
-    if n - ENTRY_WORDS < place {
+    if n - entries::ENTRY_WORDS < place {
         return Entry::End;
     }
     Entry::Of(
@@ -42,11 +36,11 @@ pub fn entry_at(s: &[u8], place: usize) -> Entry
 
 // A reader of the sheet, at the first entry.
 pub fn new<'a>(sheet: &'a [u8]) -> Reader<'a>
-    ensures { λ r. ⌜ (r .sheet ≡ sheet .entry) × (r .place ≡ 1) ⌝ }
+    ensures { λ r. ⌜ (r .sheet ≡ sheet .entry) × (r .place ≡ firstEntry) ⌝ }
 {
     Reader {
         sheet,
-        place: FIRST_ENTRY,
+        place: entries::FIRST_ENTRY,
     }
 }
 
@@ -78,8 +72,12 @@ fn read_at(sheet: &[u8], place: usize) -> Entry
 pub fn read_entry(sheet: &[u8], e: usize) -> Entry
     ensures { λ t. ⌜ t ≡ entryNumbered (now (sheet .entry)) e ⌝ }
 {
-    if ENTRIES <= e {
+    if sheet.len() < 4 {
+        return Entry::End; // no word 0
+    }
+    let f = entries::form_of(sheet);
+    if f.kinds <= e {
         return Entry::End;
     }
-    read_at(sheet, ENTRY_WORDS * e + FIRST_ENTRY)
+    read_at(sheet, f.words * e + entries::FIRST_ENTRY)
 }

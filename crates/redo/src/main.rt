@@ -7,10 +7,9 @@ use redone::Done;
 use redone::Held;
 use redone::Tally;
 ghost use mathlib.Core.Path.{_≡_};
-ghost use Prim.Native.Nat.{_+_, _*_, _≤_, _<_};
+ghost use Prim.Native.Nat.{_*_, _≤_, _<_};
 ghost use lib.ListN.{length};
-ghost use Rattle.entries.specs.Entries.{placesOf};
-ghost use Rattle.bodies.specs.Check.{checkOf};
+ghost use Rattle.bodies.specs.Check.{checkOf, KnownToPass};
 ghost use Rattle.compared.specs.Compared.{changeRoom};
 ghost use Rattle.stream.specs.Stream.{mostKept};
 ghost use Rattle.redo.specs.Turn.{Turned};
@@ -39,7 +38,7 @@ fn turn(
     more: More,
     out: &mut [u8],
 ) -> State
-    requires { ⌜ (checkOf (now old) .number ≡ 0) × (places .old ≡ placesOf (now old)) × (checkOf (now new) .number ≡ 0) × (places .new ≡ placesOf (now new)) × (prior .kept ≤ mostKept) × (mostKept < length (now input)) × (prior .kept ≤ more .to) × (more .to ≤ length (now input)) × (changeRoom * length (now input) ≤ length (now out)) ⌝ }
+    requires { ⌜ KnownToPass (now old) (places .old) × KnownToPass (now new) (places .new) × (prior .kept ≤ mostKept) × (mostKept < length (now input)) × (prior .kept ≤ more .to) × (more .to ≤ length (now input)) × (changeRoom * length (now input) ≤ length (now out)) ⌝ }
     ensures { λ r. ⌜ Turned (now (old .entry)) (now (new .entry)) (now (input .entry)) (now (input .exit)) prior more (now (out .entry)) (now (out .exit)) r ⌝ }
 {
     let kept = prior.kept;
@@ -74,7 +73,7 @@ fn compare_input(
     h: Held,
     out: &mut [u8],
 ) -> Tally
-    requires { ⌜ (checkOf (now old) .number ≡ 0) × (places .old ≡ placesOf (now old)) × (checkOf (now new) .number ≡ 0) × (places .new ≡ placesOf (now new)) × (h .from ≤ h .to) × (h .to ≤ length (now input)) × (mostKept < length (now input)) × (changeRoom * length (now input) ≤ length (now out)) ⌝ }
+    requires { ⌜ KnownToPass (now old) (places .old) × KnownToPass (now new) (places .new) × (h .from ≤ h .to) × (h .to ≤ length (now input)) × (mostKept < length (now input)) × (changeRoom * length (now input) ≤ length (now out)) ⌝ }
 {
     let done = redone::compare_block(old, new, places, input, h, out);
     let mut s = State { done, ended: false };

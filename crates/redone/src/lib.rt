@@ -5,8 +5,7 @@ ghost use mathlib.Core.Path.{_≡_};
 ghost use Prim.Native.Nat.{_+_, _*_, _≤_};
 ghost use lib.ListN.{length, take};
 ghost use lib.Seq.{slice};
-ghost use Rattle.entries.specs.Entries.{placesOf};
-ghost use Rattle.bodies.specs.Check.{checkOf};
+ghost use Rattle.bodies.specs.Check.{KnownToPass};
 ghost use Rattle.decimal.specs.Writing.{Wrote};
 ghost use Rattle.asked.specs.Asked.{lineOf};
 ghost use Rattle.compared.specs.Compared.{comparedText, changeRoom};
@@ -91,7 +90,7 @@ fn compare_one(
     out: &mut [u8],
     at: usize,
 ) -> Counted
-    requires { ⌜ (checkOf (now old) .number ≡ 0) × (places .old ≡ placesOf (now old)) × (checkOf (now new) .number ≡ 0) × (places .new ≡ placesOf (now new)) × (at + changeRoom ≤ length (now out)) ⌝ }
+    requires { ⌜ KnownToPass (now old) (places .old) × KnownToPass (now new) (places .new) × (at + changeRoom ≤ length (now out)) ⌝ }
     ensures { λ r. ⌜ (r .at ≤ at + changeRoom) × (r .tally ≡ tallied (now (old .entry)) (now (new .entry)) a (lineOf (now (line .entry)))) × Wrote (now (out .entry)) (now (out .exit)) at (r .at) (comparedText (now (old .entry)) (now (new .entry)) (up (a .lines)) (lineOf (now (line .entry)))) ⌝ }
 {
     let lines = up(a.lines);
@@ -122,7 +121,7 @@ fn compare_lines(
     h: Held,
     out: &mut [u8],
 ) -> Lines
-    requires { ⌜ (checkOf (now old) .number ≡ 0) × (places .old ≡ placesOf (now old)) × (checkOf (now new) .number ≡ 0) × (places .new ≡ placesOf (now new)) × (h .from ≤ h .to) × (h .to ≤ length (now buffer)) × (changeRoom * h .to ≤ length (now out)) ⌝ }
+    requires { ⌜ KnownToPass (now old) (places .old) × KnownToPass (now new) (places .new) × (h .from ≤ h .to) × (h .to ≤ length (now buffer)) × (changeRoom * h .to ≤ length (now out)) ⌝ }
     ensures place { λ r. ⌜ (r .rest ≤ h .to) × (r .at ≤ length (now (out .entry))) × (slice (r .rest) (h .to) (now (buffer .entry)) ≡ unended (slice (h .from) (h .to) (now (buffer .entry)))) ⌝ }
     ensures counted { λ r. ⌜ r .tally ≡ after (comparing (now (old .entry)) (now (new .entry))) (h .tally) (endedLines (slice (h .from) (h .to) (now (buffer .entry)))) ⌝ }
     ensures text { λ r. ⌜ Wrote (now (out .entry)) (now (out .exit)) 0 (r .at) (answers (comparing (now (old .entry)) (now (new .entry))) (h .tally) (endedLines (slice (h .from) (h .to) (now (buffer .entry))))) ⌝ }
@@ -151,7 +150,7 @@ pub fn compare_block(
     h: Held,
     out: &mut [u8],
 ) -> Done
-    requires { ⌜ (checkOf (now old) .number ≡ 0) × (places .old ≡ placesOf (now old)) × (checkOf (now new) .number ≡ 0) × (places .new ≡ placesOf (now new)) × (h .from ≤ h .to) × (h .to ≤ length (now buffer)) × (changeRoom * h .to ≤ length (now out)) ⌝ }
+    requires { ⌜ KnownToPass (now old) (places .old) × KnownToPass (now new) (places .new) × (h .from ≤ h .to) × (h .to ≤ length (now buffer)) × (changeRoom * h .to ≤ length (now out)) ⌝ }
     ensures { λ r. ⌜ Compared (now (old .entry)) (now (new .entry)) (now (buffer .entry)) (now (buffer .exit)) (h .from) (h .to) (h .tally) (now (out .entry)) (now (out .exit)) r ⌝ }
 {
     let d = compare_lines(old, new, places, buffer, h, out);
@@ -183,7 +182,7 @@ fn compare_rest(
     a: Tally,
     out: &mut [u8],
 ) -> Counted
-    requires { ⌜ (checkOf (now old) .number ≡ 0) × (places .old ≡ placesOf (now old)) × (checkOf (now new) .number ≡ 0) × (places .new ≡ placesOf (now new)) × (n ≤ length (now buffer)) × (changeRoom ≤ length (now out)) ⌝ }
+    requires { ⌜ KnownToPass (now old) (places .old) × KnownToPass (now new) (places .new) × (n ≤ length (now buffer)) × (changeRoom ≤ length (now out)) ⌝ }
     ensures { λ r. ⌜ (r .at ≤ changeRoom) × (r .tally ≡ after (comparing (now (old .entry)) (now (new .entry))) a (lastLine (take n (now (buffer .entry))))) × Wrote (now (out .entry)) (now (out .exit)) 0 (r .at) (answers (comparing (now (old .entry)) (now (new .entry))) a (lastLine (take n (now (buffer .entry))))) ⌝ }
 {
     if n == 0 {
@@ -202,7 +201,7 @@ pub fn compare_last(
     a: Tally,
     out: &mut [u8],
 ) -> Done
-    requires { ⌜ (checkOf (now old) .number ≡ 0) × (places .old ≡ placesOf (now old)) × (checkOf (now new) .number ≡ 0) × (places .new ≡ placesOf (now new)) × (n ≤ length (now buffer)) × (changeRoom + 66 ≤ length (now out)) ⌝ }
+    requires { ⌜ KnownToPass (now old) (places .old) × KnownToPass (now new) (places .new) × (n ≤ length (now buffer)) × (changeRoom + 66 ≤ length (now out)) ⌝ }
     ensures { λ r. ⌜ (r .kept ≡ 0) × (r .at ≤ length (now (out .entry))) × (r .tally ≡ after (comparing (now (old .entry)) (now (new .entry))) a (lastLine (take n (now (buffer .entry))))) × Wrote (now (out .entry)) (now (out .exit)) 0 (r .at) (written (comparing (now (old .entry)) (now (new .entry))) a (lastLine (take n (now (buffer .entry))))) ⌝ }
 {
     let r = compare_rest(old, new, places, buffer, n, a, out);

@@ -9,6 +9,7 @@ use Prim.Native.Nat.{ℕ, _+_, _*_}
 use lib.IntN.{pos}
 use Rattle.words.specs.Words.{wordAt}
 use Rattle.words.specs.Ladder.{need, whereBelow}
+use Rattle.entries.specs.Layout.{latitude, widthOf}
 use Rattle.rules.specs.declared.Figures.{Figures}
 use Rattle.rules.specs.declared.Differences.{Differences}
 use Rattle.rows.specs.declared.Row.{Row}
@@ -18,13 +19,13 @@ use Rattle.rules.specs.Latitude.{figuresInRange, withinBounds, differencesOf, n
 -- "2 latitude": "minute; y0 (0.01 ft); Δy (0.00001); H (0.000001); ΔH (10⁻⁸); V (0.000001); ΔV (10⁻⁸); a (0.001)".
 -- The four figures, the three differences, and the row of both with its minute.
 unfoldable pub figuresAt : List ℕ → ℕ → Figures
-figuresAt b i = record { y0 = wordAt b (8 * i + 1); h = wordAt b (8 * i + 3); v = wordAt b (8 * i + 5); a = wordAt b (8 * i + 7) }
+figuresAt b i = record { y0 = wordAt b (widthOf latitude * i + 1); h = wordAt b (widthOf latitude * i + 3); v = wordAt b (widthOf latitude * i + 5); a = wordAt b (widthOf latitude * i + 7) }
 
 unfoldable pub differencesAt : List ℕ → ℕ → Differences
-differencesAt b i = record { y = wordAt b (8 * i + 2); h = wordAt b (8 * i + 4); v = wordAt b (8 * i + 6) }
+differencesAt b i = record { y = wordAt b (widthOf latitude * i + 2); h = wordAt b (widthOf latitude * i + 4); v = wordAt b (widthOf latitude * i + 6) }
 
 abbrev pub rowAt : List ℕ → ℕ → Row
-rowAt b i = record { minute = wordAt b (8 * i); figures = figuresAt b i; differences = differencesAt b i }
+rowAt b i = record { minute = wordAt b (widthOf latitude * i); figures = figuresAt b i; differences = differencesAt b i }
 
 -- "minute 0 to 5,400" and the four figures. Δy, ΔH and ΔV have no range: 9 fixes them.
 unfoldable pub rowInRange : Row → Bool

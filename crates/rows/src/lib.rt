@@ -3,12 +3,12 @@ use rules::Differences;
 use rules::Figures;
 ghost use mathlib.Core.Path.{_≡_};
 ghost use mathlib.Core.Bool.{true};
-ghost use Prim.Native.Nat.{_+_, _*_, _<_, _≤_};
-ghost use lib.IntN.{pos, negℤ};
+ghost use Prim.Native.Nat.{_+_, _*_, _≤_};
+ghost use lib.IntN.{pos};
 ghost use lib.ListN.{length};
-ghost use Rattle.words.specs.Words.{wordAt};
-ghost use Rattle.rules.specs.Limits.{inRange, rises};
-ghost use Rattle.rules.specs.Latitude.{figuresInRange, withinBounds, differencesOf, noDifferences, sameDifferences};
+ghost use Rattle.entries.specs.Layout.{latitude, rowBytes};
+ghost use Rattle.rules.specs.Limits.{rises};
+ghost use Rattle.rules.specs.Latitude.{withinBounds, differencesOf, noDifferences, sameDifferences};
 ghost use Rattle.rows.specs.Rows.{figuresAt, differencesAt, rowAt, rowInRange, pairFault, lastFault};
 
 // A latitude row: its eight words.
@@ -20,36 +20,36 @@ pub struct Row {
 
 // The four figures of latitude row i: y0, H, V, a.
 pub fn figures_at(b: &[u8], i: usize) -> Figures
-    requires { ⌜ 32 * i + 32 ≤ length (now b) ⌝ }
+    requires { ⌜ rowBytes latitude * i + rowBytes latitude ≤ length (now b) ⌝ }
     ensures { λ r. ⌜ r ≡ figuresAt (now (b .entry)) i ⌝ }
 {
     Figures {
-        y0: words::word(b, 8 * i + 1),
-        h: words::word(b, 8 * i + 3),
-        v: words::word(b, 8 * i + 5),
-        a: words::word(b, 8 * i + 7),
+        y0: words::word(b, entries::LATITUDE_WIDTH * i + 1),
+        h: words::word(b, entries::LATITUDE_WIDTH * i + 3),
+        v: words::word(b, entries::LATITUDE_WIDTH * i + 5),
+        a: words::word(b, entries::LATITUDE_WIDTH * i + 7),
     }
 }
 
 // The differences of latitude row i: Δy, ΔH, ΔV.
 fn differences_at(b: &[u8], i: usize) -> Differences
-    requires { ⌜ 32 * i + 32 ≤ length (now b) ⌝ }
+    requires { ⌜ rowBytes latitude * i + rowBytes latitude ≤ length (now b) ⌝ }
     ensures { λ r. ⌜ r ≡ differencesAt (now (b .entry)) i ⌝ }
 {
     Differences {
-        y: words::word(b, 8 * i + 2),
-        h: words::word(b, 8 * i + 4),
-        v: words::word(b, 8 * i + 6),
+        y: words::word(b, entries::LATITUDE_WIDTH * i + 2),
+        h: words::word(b, entries::LATITUDE_WIDTH * i + 4),
+        v: words::word(b, entries::LATITUDE_WIDTH * i + 6),
     }
 }
 
 // Latitude row i.
 pub fn row_at(b: &[u8], i: usize) -> Row
-    requires { ⌜ 32 * i + 32 ≤ length (now b) ⌝ }
+    requires { ⌜ rowBytes latitude * i + rowBytes latitude ≤ length (now b) ⌝ }
     ensures { λ r. ⌜ r ≡ rowAt (now (b .entry)) i ⌝ }
 {
     Row {
-        minute: words::word(b, 8 * i),
+        minute: words::word(b, entries::LATITUDE_WIDTH * i),
         figures: figures_at(b, i),
         differences: differences_at(b, i),
     }

@@ -14,7 +14,7 @@ use Rattle.figures.proofs.Sizes.{Size, within-size, pos-minus, subℕ-le, sub�
 use Rattle.rules.specs.declared.Figures.{Figures}
 use Rattle.rules.specs.declared.Differences.{Differences}
 use Rattle.rules.specs.Limits.{inRange, rises}
-use Rattle.rules.specs.Latitude.{figuresInRange, withinBounds, sameDifferences}
+use Rattle.rules.specs.Latitude.{figuresInRange, leastRise, mostRise, withinBounds, sameDifferences}
 use Rattle.figures.proofs.Tests.{both}
 use Rattle.rules.proofs.Ranges.{range-true, same-true}
 
@@ -63,7 +63,7 @@ figures-in f e =
 
 -- of two rows in range
 pub record Bounded (f next : Figures) : Type 0 where
-  pub y0 : (natAbs (f .y0) + 600_000 ≤ natAbs (next .y0)) × (natAbs (next .y0) ≤ natAbs (f .y0) + 615_000)
+  pub y0 : (natAbs (f .y0) + leastRise ≤ natAbs (next .y0)) × (natAbs (next .y0) ≤ natAbs (f .y0) + mostRise)
   pub h : (natAbs (next .h) + 1 ≤ natAbs (f .h)) × (natAbs (f .h) ≤ natAbs (next .h) + 50_000)
   pub v : natAbs (next .v -ℤ f .v) ≤ 1_000
   pub a : natAbs (next .a -ℤ f .a) ≤ 10
@@ -74,10 +74,10 @@ figures-bounded f next x y e =
     let p = both _ _ e in
     let q = both _ _ (p .0) in
     let r = both _ _ (q .0) in
-    let up : rises (f .y0) (next .y0) (pos 600_000) (pos 615_000) ≡ true = r .0 in
+    let up : rises (f .y0) (next .y0) (pos leastRise) (pos mostRise) ≡ true = r .0 in
     let down : rises (next .h) (f .h) (pos 1) (pos 50_000) ≡ true = r .1 in
     record {
-      y0 = rises-sizes 600_000 615_000 (natAbs (f .y0)) (natAbs (next .y0)) (rw (← x .y0 .is, ← y .y0 .is) up);
+      y0 = rises-sizes leastRise mostRise (natAbs (f .y0)) (natAbs (next .y0)) (rw (← x .y0 .is, ← y .y0 .is) up);
       h = rises-sizes 1 50_000 (natAbs (next .h)) (natAbs (f .h)) (rw (← x .h .is, ← y .h .is) down);
       v = rises-most _ _ _ (q .1);
       a = rises-most _ _ _ (p .1);
@@ -108,7 +108,7 @@ changes f next e =
     let q = both _ _ (p .0) in
     let r = both _ _ (q .0) in
     record {
-      y0 = le-trans (range-size 600_000 (next .y0 -ℤ f .y0) 615_000 (r .0) .high) (lit≤ tt);
+      y0 = le-trans (range-size leastRise (next .y0 -ℤ f .y0) mostRise (r .0) .high) (lit≤ tt);
       h = le-trans (range-size 1 (f .h -ℤ next .h) 50_000 (r .1) .high) (lit≤ tt);
       v = le-trans (range-most 1_000 (next .v -ℤ f .v) (q .1)) (lit≤ tt);
     }

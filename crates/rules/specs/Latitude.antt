@@ -1,5 +1,6 @@
 -- The rules of a latitude row's figures: their ranges, their bounds with the next row, and the differences over 60 seconds.
 use mathlib.Core.Bool.{Bool, _&&_}
+use Prim.Native.Nat.{ℕ}
 use lib.IntN.{pos, negℤ, _-ℤ_}
 use Rattle.steps.specs.Steps.{perSecond}
 use Rattle.rules.specs.declared.Figures.{Figures}
@@ -14,11 +15,18 @@ figuresInRange f =
     && inRange (pos 0) (f .v) (pos 1_400_000)
     && inRange (negℤ (pos 2_000)) (f .a) (pos 2_000)
 
+-- "y0 rises by 600,000 to 615,000"
+abbrev pub leastRise : ℕ
+leastRise = 600_000
+
+abbrev pub mostRise : ℕ
+mostRise = 615_000
+
 -- "Between a latitude row and the next: [..] y0 rises by 600,000 to 615,000; H falls by 1 to 50,000; V differs by at most 1,000 and a by at most 10."
 -- H's fall is the rise from the next row's H to this one's.
 unfoldable pub withinBounds : Figures → Figures → Bool
 withinBounds f next =
-    rises (f .y0) (next .y0) (pos 600_000) (pos 615_000)
+    rises (f .y0) (next .y0) (pos leastRise) (pos mostRise)
     && rises (next .h) (f .h) (pos 1) (pos 50_000)
     && rises (f .v) (next .v) (negℤ (pos 1_000)) (pos 1_000)
     && rises (f .a) (next .a) (negℤ (pos 10)) (pos 10)

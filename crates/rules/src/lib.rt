@@ -23,6 +23,11 @@ pub struct Differences {
     pub v: i32,
 }
 
+// The least and the greatest rise of y0 from a latitude row to the next, in 0.01 ft.
+pub const LEAST_RISE: i32 = 600_000;
+
+pub const MOST_RISE: i32 = 615_000;
+
 // Whether x is from least to most.
 pub fn in_range(least: i32, x: i32, most: i32) -> bool
     ensures { λ r. ⌜ r ≡ inRange least x most ⌝ }
@@ -66,7 +71,7 @@ pub fn figures_in_range(f: Figures) -> bool
 pub fn within_bounds(f: Figures, next: Figures) -> bool
     ensures { λ r. ⌜ r ≡ withinBounds f next ⌝ }
 {
-    rises(f.y0, next.y0, 600_000, 615_000)
+    rises(f.y0, next.y0, LEAST_RISE, MOST_RISE)
         & rises(next.h, f.h, 1, 50_000)
         & rises(f.v, next.v, -1_000, 1_000)
         & rises(f.a, next.a, -10, 10)

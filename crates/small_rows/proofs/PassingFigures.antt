@@ -8,6 +8,7 @@ use lib.IntN.{ℤ, pos, natAbs, _-ℤ_, -ℤ-+ℤ-cancel}
 use Rattle.figures.proofs.Sizes.{size-sum}
 use Rattle.words.specs.Words.{wordAt}
 use Rattle.words.proofs.Refusals.{where-beyond}
+use Rattle.entries.specs.Layout.{longitude, widthOf}
 use Rattle.rules.specs.Limits.{inRange}
 use Rattle.rules.proofs.WhatPasses.{range-size, rises-most}
 use Rattle.small_rows.specs.SmallRows.{zeroFirst}
@@ -24,11 +25,11 @@ first-zero x e =
 
 -- ---- longitude: a step of 100″, so 1,000 units a row
 module _ (b : List ℕ) (n : ℕ) (rows : (i : ℕ) → i < n → LongitudeRow b n i) where
-  pub b-most : (i : ℕ) → i < n → natAbs (wordAt b (2 * i)) ≤ 1_000 * i
-  b-most zero h = let z = first-zero (wordAt b (2 * 0)) (rows 0 h .b-first) in omega (arith, ap natAbs z)
+  pub b-most : (i : ℕ) → i < n → natAbs (wordAt b (widthOf longitude * i)) ≤ 1_000 * i
+  b-most zero h = let z = first-zero (wordAt b (widthOf longitude * 0)) (rows 0 h .b-first) in omega (arith, ap natAbs z)
   b-most (suc i) h =
-      let next : 2 * suc i ≡ 2 * i + 2 = omega arith in
-      let step = rises-most 1_000 (wordAt b (2 * i)) (wordAt b (2 * i + 2)) (rows i (omega arith) .b-next (omega arith)) in
-      let whole = ap natAbs (-ℤ-+ℤ-cancel (wordAt b (2 * i + 2)) (wordAt b (2 * i))) in
-      let sum = size-sum (wordAt b (2 * i + 2) -ℤ wordAt b (2 * i)) (wordAt b (2 * i)) in
+      let next : widthOf longitude * suc i ≡ widthOf longitude * i + widthOf longitude = omega arith in
+      let step = rises-most 1_000 (wordAt b (widthOf longitude * i)) (wordAt b (widthOf longitude * i + widthOf longitude)) (rows i (omega arith) .b-next (omega arith)) in
+      let whole = ap natAbs (-ℤ-+ℤ-cancel (wordAt b (widthOf longitude * i + widthOf longitude)) (wordAt b (widthOf longitude * i))) in
+      let sum = size-sum (wordAt b (widthOf longitude * i + widthOf longitude) -ℤ wordAt b (widthOf longitude * i)) (wordAt b (widthOf longitude * i)) in
       rw next (omega (arith, whole, sum, step, b-most i (omega arith)))

@@ -7,14 +7,15 @@ use native.Mathlib.Omega.{arith}
 use lib.IntN.{pos, negℤ}
 use Rattle.words.specs.Words.{wordAt}
 use Rattle.words.proofs.Refusals.{rung, where-below}
+use Rattle.entries.specs.Layout.{zone, longitude, northing, widthOf}
 use Rattle.rules.specs.Limits.{inRange, rises}
 use Rattle.small_rows.specs.SmallRows.{zeroFirst, zoneFault, longitudeFault, northingFault, eastingFault, scaleFault}
 
 -- ---- kind 1
 module _ (b : List ℕ) (i : ℕ) where
   pub record ZoneRow : Type 0 where
-    pub central-meridian : inRange (pos 6_000_000) (wordAt b (2 * i)) (pos 642_000_000) ≡ true
-    pub false-easting : inRange (pos 0) (wordAt b (2 * i + 1)) (pos 100_000_000) ≡ true
+    pub central-meridian : inRange (pos 6_000_000) (wordAt b (widthOf zone * i)) (pos 642_000_000) ≡ true
+    pub false-easting : inRange (pos 0) (wordAt b (widthOf zone * i + 1)) (pos 100_000_000) ≡ true
 
   pub zone-row : zoneFault b i ≡ 0 → ZoneRow
   unfolding zoneFault
@@ -26,11 +27,11 @@ module _ (b : List ℕ) (i : ℕ) where
 -- ---- kind 3
 module _ (b : List ℕ) (n i : ℕ) where
   pub record LongitudeRow : Type 0 where
-    pub b-range : inRange (negℤ (pos 20_000)) (wordAt b (2 * i)) (pos 20_000) ≡ true
-    pub c-range : inRange (negℤ (pos 2_000)) (wordAt b (2 * i + 1)) (pos 2_000) ≡ true
-    pub b-first : zeroFirst (wordAt b (2 * i)) i ≡ true
-    pub c-first : zeroFirst (wordAt b (2 * i + 1)) i ≡ true
-    pub b-next : i + 1 < n → rises (wordAt b (2 * i)) (wordAt b (2 * i + 2)) (negℤ (pos 1_000)) (pos 1_000) ≡ true
+    pub b-range : inRange (negℤ (pos 20_000)) (wordAt b (widthOf longitude * i)) (pos 20_000) ≡ true
+    pub c-range : inRange (negℤ (pos 2_000)) (wordAt b (widthOf longitude * i + 1)) (pos 2_000) ≡ true
+    pub b-first : zeroFirst (wordAt b (widthOf longitude * i)) i ≡ true
+    pub c-first : zeroFirst (wordAt b (widthOf longitude * i + 1)) i ≡ true
+    pub b-next : i + 1 < n → rises (wordAt b (widthOf longitude * i)) (wordAt b (widthOf longitude * i + widthOf longitude)) (negℤ (pos 1_000)) (pos 1_000) ≡ true
 
   pub longitude-row : longitudeFault b n i ≡ 0 → LongitudeRow
   unfolding longitudeFault
@@ -50,8 +51,8 @@ module _ (b : List ℕ) (n i : ℕ) where
 -- ---- kinds 4, 5 and 6
 module _ (b : List ℕ) (i : ℕ) where
   pub record NorthingRow : Type 0 where
-    pub p-range : inRange (pos 0) (wordAt b (2 * i)) (pos 1_000_000) ≡ true
-    pub m-range : inRange (pos 0) (wordAt b (2 * i + 1)) (pos 1_000_000) ≡ true
+    pub p-range : inRange (pos 0) (wordAt b (widthOf northing * i)) (pos 1_000_000) ≡ true
+    pub m-range : inRange (pos 0) (wordAt b (widthOf northing * i + 1)) (pos 1_000_000) ≡ true
 
   pub northing-row : northingFault b i ≡ 0 → NorthingRow
   unfolding northingFault

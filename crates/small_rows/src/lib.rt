@@ -1,9 +1,10 @@
 // The fault of one row of the small bodies, kind by kind: zone, longitude, northing, easting and scale. Of longitude also from the next row.
 ghost use mathlib.Core.Path.{_≡_};
 ghost use Prim.Native.Nat.{_+_, _*_, _<_, _≤_};
-ghost use lib.IntN.{pos, negℤ};
+ghost use lib.IntN.{pos};
 ghost use lib.ListN.{length};
 ghost use Rattle.words.specs.Words.{wordAt};
+ghost use Rattle.entries.specs.Layout.{zone, longitude, northing, rowBytes};
 ghost use Rattle.rules.specs.Limits.{inRange, rises};
 ghost use Rattle.small_rows.specs.SmallRows.{zeroFirst, zoneFault, longitudeFault, northingFault, eastingFault, scaleFault};
 
@@ -35,13 +36,13 @@ fn zero_first(x: i32, i: usize) -> bool
 
 // The number of the fault of a zone row.
 pub fn zone_row(b: &[u8], i: usize) -> u32
-    requires { ⌜ 8 * i + 8 ≤ length (now b) ⌝ }
+    requires { ⌜ rowBytes zone * i + rowBytes zone ≤ length (now b) ⌝ }
     ensures { λ r. ⌜ r ≡ zoneFault (now (b .entry)) i ⌝ }
 {
-    if !word_in(b, 2 * i, 6_000_000, 642_000_000) {
+    if !word_in(b, entries::ZONE_WIDTH * i, 6_000_000, 642_000_000) {
         return 6;
     }
-    if !size_in(b, 2 * i + 1, 100_000_000) {
+    if !size_in(b, entries::ZONE_WIDTH * i + 1, 100_000_000) {
         return 6;
     }
     0
@@ -49,11 +50,11 @@ pub fn zone_row(b: &[u8], i: usize) -> u32
 
 // The number of the fault of a longitude row, one of n. Its figures are read once each.
 pub fn longitude_row(b: &[u8], n: usize, i: usize) -> u32
-    requires { ⌜ (8 * n ≤ length (now b)) × (i < n) ⌝ }
+    requires { ⌜ (rowBytes longitude * n ≤ length (now b)) × (i < n) ⌝ }
     ensures { λ r. ⌜ r ≡ longitudeFault (now (b .entry)) n i ⌝ }
 {
-    let x = words::word(b, 2 * i);
-    let c = words::word(b, 2 * i + 1);
+    let x = words::word(b, entries::LONGITUDE_WIDTH * i);
+    let c = words::word(b, entries::LONGITUDE_WIDTH * i + 1);
     if !rules::in_range(-20_000, x, 20_000) {
         return 6;
     }
@@ -67,7 +68,7 @@ pub fn longitude_row(b: &[u8], n: usize, i: usize) -> u32
         return 6;
     }
     if i + 1 < n {
-        let next = words::word(b, 2 * i + 2);
+        let next = words::word(b, entries::LONGITUDE_WIDTH * i + entries::LONGITUDE_WIDTH);
         if !rules::rises(x, next, -1_000, 1_000) {
             return 8;
         }
@@ -77,13 +78,13 @@ pub fn longitude_row(b: &[u8], n: usize, i: usize) -> u32
 
 // The number of the fault of a northing row.
 pub fn northing_row(b: &[u8], i: usize) -> u32
-    requires { ⌜ 8 * i + 8 ≤ length (now b) ⌝ }
+    requires { ⌜ rowBytes northing * i + rowBytes northing ≤ length (now b) ⌝ }
     ensures { λ r. ⌜ r ≡ northingFault (now (b .entry)) i ⌝ }
 {
-    if !size_in(b, 2 * i, 1_000_000) {
+    if !size_in(b, entries::NORTHING_WIDTH * i, 1_000_000) {
         return 6;
     }
-    if !size_in(b, 2 * i + 1, 1_000_000) {
+    if !size_in(b, entries::NORTHING_WIDTH * i + 1, 1_000_000) {
         return 6;
     }
     0

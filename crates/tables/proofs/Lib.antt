@@ -1,7 +1,6 @@
 -- Laws of a passing sheet's figures. Other crates cite them.
 pub mod Parts
 pub mod Ranges
-pub mod ByName
 pub mod Answers
 pub mod Northings
 pub mod Past

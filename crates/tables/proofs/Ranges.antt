@@ -11,20 +11,22 @@ use lib.IntN.{ℤ, pos, natAbs}
 use lib.Signed.{leZ}
 use Rattle.figures.specs.Ranges.{mostH, mostV, mostA, mostB, mostC, mostP, mostM, mostD}
 use Rattle.figures.proofs.Sizes.{Size, times-most}
+use Rattle.rules.specs.Latitude.{leastRise, mostRise}
 use Rattle.rules.proofs.WhatPasses.{InRange, range-size, range-most}
 use Rattle.rows.specs.Rows.{figuresAt}
 use Rattle.rows.proofs.PassingFigures.{minute-in-range, figures-in-range, figures-within}
 use Rattle.small_rows.proofs.PassingFigures.{b-most}
-use Rattle.entries.specs.Layout.{lastKind, zone, latitude, longitude, northing, easting, scale, stepOf}
-use Rattle.entries.specs.Entries.{rowsOf, bodyOf}
-use Rattle.contents.proofs.Passing.{rows-least, rows-some}
+use Rattle.entries.specs.Layout.{lastKind, leastRows, zone, latitude, longitude, northing, easting, scale, oneMinute}
+use Rattle.entries.specs.Entries.{rowsOf, stepOf, lastOf, bodyOf, Within}
+use Rattle.contents.proofs.Passing.{rows-some, rows-least, step-usual}
 use Rattle.bodies.specs.Check.{checkOf}
+use Rattle.bodies.proofs.Known.{contents-none}
 use Rattle.bodies.proofs.Sound.{passes-sound, zone-rows, latitude-rows, longitude-rows, northing-rows, easting-rows, scale-rows}
 use Rattle.reading.specs.Tables.{NotNegative}
 use Rattle.row_search.specs.Rows.{RisesBy}
 use Rattle.reading.proofs.Values.{value-most, value-size, value-slope}
-use Rattle.tables.specs.Figures.{figureOf, figureAt, centralMeridian, falseEasting, firstLatitude, y0Of, y0At, hAt, aAt, bAt, cAt, dAt, kAt}
-use Rattle.tables.proofs.Parts.{contents-none}
+use Rattle.tables.specs.Figures.{figureOf, figureAt, latitudeAt, centralMeridian, falseEasting, firstLatitude, y0Of, y0At, hAt, aAt, bAt, cAt, dAt, kAt}
+use Rattle.tables.proofs.Parts.{step-above}
 
 -- a body of one word in a row
 one-word : {i : ℕ} → 1 * i + 0 ≡ i
@@ -43,6 +45,9 @@ module _ (s : List ℕ) (z : checkOf s .number ≡ 0) where
   some : (kind : ℕ) → 1 ≤ kind → kind ≤ lastKind → 0 < rowsOf s kind
   some kind l h = rows-some s (contents-none s z) kind l h
 
+  above : (kind : ℕ) → 1 ≤ kind → kind ≤ lastKind → 2 ≤ leastRows kind → 0 < stepOf s kind
+  above kind l h two = step-above s (contents-none s z) kind l h two
+
   pub zone-some : 0 < rowsOf s zone
   zone-some = some zone (omega arith) (omega arith)
 
@@ -51,6 +56,15 @@ module _ (s : List ℕ) (z : checkOf s .number ≡ 0) where
 
   pub latitude-two : 2 ≤ rowsOf s latitude
   latitude-two = rows-least s (contents-none s z) latitude (lit≤ tt) (lit≤ tt)
+
+  -- a latitude's distance from row 0 that lies within the table, and the other way: its rows stand a minute apart
+  pub minutes-most : (t : ℕ) → Within s latitude t → t ≤ (rowsOf s latitude - 1) * oneMinute
+  unfolding lastOf
+  minutes-most t h = rw (step-usual s (contents-none s z) latitude (lit≤ tt) (lit≤ tt)) at (h .most)
+
+  pub within-minutes : (t : ℕ) → t ≤ (rowsOf s latitude - 1) * oneMinute → Within s latitude t
+  unfolding lastOf
+  within-minutes t h = record { most = rw (step-usual s (contents-none s z) latitude (lit≤ tt) (lit≤ tt)) h }
 
   -- ---- zone
   pub central-size : Size 6_000_000 (centralMeridian s) 642_000_000
@@ -76,7 +90,7 @@ module _ (s : List ℕ) (z : checkOf s .number ≡ 0) where
 
   pub first-most : natAbs (firstLatitude s) ≤ 324_000_000
   unfolding firstLatitude
-  first-most = times-most (figureOf s latitude 0 0) (pos 60_000) {A = 5_400} {B = 60_000} (minute-size .high) (lit≤ tt)
+  first-most = times-most (figureOf s latitude 0 0) (pos oneMinute) {A = 5_400} {B = oneMinute} (minute-size .high) (lit≤ tt)
 
   in-range : (i : ℕ) → i < rowsOf s latitude → InRange (figuresAt (bodyOf s latitude) i)
   in-range i h = figures-in-range (bodyOf s latitude) (rowsOf s latitude) (latitude-rows s (passes-sound s z)) i h
@@ -92,8 +106,8 @@ module _ (s : List ℕ) (z : checkOf s .number ≡ 0) where
   unfolding y0Of
   y0-sign i h = not-below (figureOf s latitude 1 i) (y0-size i h)
 
-  -- y0 rises by 600,000 to 615,000 from a row to the next
-  pub y0-rises : RisesBy (y0Of s) (rowsOf s latitude) 600_000 615_000
+  -- y0 rises from a row to the next by no less and no more than the bounds
+  pub y0-rises : RisesBy (y0Of s) (rowsOf s latitude) leastRise mostRise
   unfolding RisesBy y0Of figuresAt
   y0-rises i h =
       let this = in-range i (omega arith) .y0 in
@@ -116,50 +130,50 @@ module _ (s : List ℕ) (z : checkOf s .number ≡ 0) where
   unfolding figuresAt
   v-rows = all-sizes (figureOf s latitude 5) (rowsOf s latitude) 0 mostV (λ i l. in-range i l .v)
 
-  module _ (t : ℕ) (h : t ≤ (rowsOf s latitude - 1) * stepOf latitude) where
+  module _ (t : ℕ) (h : Within s latitude t) where
     pub y0-between : Size 0 (y0At s t) 999_999_999
     unfolding y0At figuresAt
     y0-between =
-        value-size (figureOf s latitude 1) (rowsOf s latitude) (stepOf latitude) t (lit< tt) latitude-some h 0 999_999_999 (λ i l. in-range i l .y0)
+        value-size (figureOf s latitude 1) (rowsOf s latitude) oneMinute t (lit< tt) latitude-some (minutes-most t h) 0 999_999_999 (λ i l. in-range i l .y0)
 
-    pub h-between : Size 30_000_000 (figureAt s latitude 3 t) mostH
+    pub h-between : Size 30_000_000 (latitudeAt s 3 t) mostH
     unfolding figuresAt
     h-between =
-        value-size (figureOf s latitude 3) (rowsOf s latitude) (stepOf latitude) t (lit< tt) latitude-some h 30_000_000 mostH (λ i l. in-range i l .h)
+        value-size (figureOf s latitude 3) (rowsOf s latitude) oneMinute t (lit< tt) latitude-some (minutes-most t h) 30_000_000 mostH (λ i l. in-range i l .h)
 
     pub h-least : 30_000_000 ≤ hAt s t
     unfolding hAt
     h-least = h-between .low
 
-    pub v-between : Size 0 (figureAt s latitude 5 t) mostV
+    pub v-between : Size 0 (latitudeAt s 5 t) mostV
     unfolding figuresAt
     v-between =
-        value-size (figureOf s latitude 5) (rowsOf s latitude) (stepOf latitude) t (lit< tt) latitude-some h 0 mostV (λ i l. in-range i l .v)
+        value-size (figureOf s latitude 5) (rowsOf s latitude) oneMinute t (lit< tt) latitude-some (minutes-most t h) 0 mostV (λ i l. in-range i l .v)
 
     pub a-most : natAbs (aAt s t) ≤ mostA
     unfolding aAt figuresAt
     a-most =
-        value-most (figureOf s latitude 7) (rowsOf s latitude) (stepOf latitude) t (lit< tt) latitude-some h mostA (λ i l. in-range i l .a)
+        value-most (figureOf s latitude 7) (rowsOf s latitude) oneMinute t (lit< tt) latitude-some (minutes-most t h) mostA (λ i l. in-range i l .a)
 
   -- ---- longitude
-  module _ (size : ℕ) (h : size ≤ (rowsOf s longitude - 1) * stepOf longitude) where
+  module _ (size : ℕ) (h : Within s longitude size) where
     pub b-between : natAbs (bAt s size) ≤ mostB
-    unfolding bAt
+    unfolding lastOf bAt
     b-between =
-        value-most (figureOf s longitude 0) (rowsOf s longitude) (stepOf longitude) size (lit< tt) (some longitude (omega arith) (omega arith)) h mostB
+        value-most (figureOf s longitude 0) (rowsOf s longitude) (stepOf s longitude) size (above longitude (omega arith) (omega arith) (omega arith)) (some longitude (omega arith) (omega arith)) (h .most) mostB
         (λ i l. rw add-zero (range-most mostB _ (longitude-rows s (passes-sound s z) i l .b-range)))
 
     -- "Next b's differ by at most 1,000", 10 a second, and row 0's is 0
     pub b-slope : natAbs (bAt s size) ≤ size
-    unfolding bAt
+    unfolding lastOf bAt
     b-slope =
-        value-slope (figureOf s longitude 0) (rowsOf s longitude) (stepOf longitude) size (lit< tt) (some longitude (omega arith) (omega arith)) h 1_000 (lit≤ tt)
+        value-slope (figureOf s longitude 0) (rowsOf s longitude) (stepOf s longitude) size (above longitude (omega arith) (omega arith) (omega arith)) (some longitude (omega arith) (omega arith)) (h .most) 1_000 (rw (step-usual s (contents-none s z) longitude (lit≤ tt) (lit≤ tt)) (lit≤ tt))
         (λ i l. rw add-zero (b-most (bodyOf s longitude) (rowsOf s longitude) (longitude-rows s (passes-sound s z)) i l))
 
     pub c-between : natAbs (cAt s size) ≤ mostC
-    unfolding cAt
+    unfolding lastOf cAt
     c-between =
-        value-most (figureOf s longitude 1) (rowsOf s longitude) (stepOf longitude) size (lit< tt) (some longitude (omega arith) (omega arith)) h mostC
+        value-most (figureOf s longitude 1) (rowsOf s longitude) (stepOf s longitude) size (above longitude (omega arith) (omega arith) (omega arith)) (some longitude (omega arith) (omega arith)) (h .most) mostC
         (λ i l. range-most mostC (figureOf s longitude 1 i) (longitude-rows s (passes-sound s z) i l .c-range))
 
   -- ---- northing
@@ -175,20 +189,22 @@ module _ (s : List ℕ) (z : checkOf s .number ≡ 0) where
   pub m-rows : NotNegative (figureOf s northing 1) (rowsOf s northing)
   m-rows = all-sizes (figureOf s northing 1) (rowsOf s northing) 0 mostM m-row
 
-  module _ (y : ℕ) (h : y ≤ (rowsOf s northing - 1) * stepOf northing) where
+  module _ (y : ℕ) (h : Within s northing y) where
     pub p-between : Size 0 (figureAt s northing 0 y) mostP
+    unfolding lastOf
     p-between =
-        value-size (figureOf s northing 0) (rowsOf s northing) (stepOf northing) y (lit< tt) (some northing (omega arith) (omega arith)) h 0 mostP p-row
+        value-size (figureOf s northing 0) (rowsOf s northing) (stepOf s northing) y (above northing (omega arith) (omega arith) (omega arith)) (some northing (omega arith) (omega arith)) (h .most) 0 mostP p-row
 
     pub m-between : Size 0 (figureAt s northing 1 y) mostM
+    unfolding lastOf
     m-between =
-        value-size (figureOf s northing 1) (rowsOf s northing) (stepOf northing) y (lit< tt) (some northing (omega arith) (omega arith)) h 0 mostM m-row
+        value-size (figureOf s northing 1) (rowsOf s northing) (stepOf s northing) y (above northing (omega arith) (omega arith) (omega arith)) (some northing (omega arith) (omega arith)) (h .most) 0 mostM m-row
 
   -- ---- easting and scale
-  pub d-between : (size : ℕ) → size ≤ (rowsOf s easting - 1) * stepOf easting → natAbs (dAt s size) ≤ mostD
-  unfolding dAt
+  pub d-between : (size : ℕ) → Within s easting size → natAbs (dAt s size) ≤ mostD
+  unfolding lastOf dAt
   d-between size h =
-      value-most (λ i. figureOf s easting 0 i) (rowsOf s easting) (stepOf easting) size (lit< tt) (some easting (omega arith) (omega arith)) h mostD
+      value-most (λ i. figureOf s easting 0 i) (rowsOf s easting) (stepOf s easting) size (above easting (omega arith) (omega arith) (omega arith)) (some easting (omega arith) (omega arith)) (h .most) mostD
       (λ i l. rw one-word (range-most mostD _ (easting-rows s (passes-sound s z) i l .d-range)))
 
   k-row : (i : ℕ) → i < rowsOf s scale → Size 9_990_000 (figureOf s scale 0 i) 10_010_000
@@ -197,7 +213,7 @@ module _ (s : List ℕ) (z : checkOf s .number ≡ 0) where
   pub k-rows : NotNegative (figureOf s scale 0) (rowsOf s scale)
   k-rows = all-sizes (figureOf s scale 0) (rowsOf s scale) 9_990_000 10_010_000 k-row
 
-  pub k-between : (size : ℕ) → size ≤ (rowsOf s scale - 1) * stepOf scale → Size 9_990_000 (kAt s size) 10_010_000
-  unfolding kAt
+  pub k-between : (size : ℕ) → Within s scale size → Size 9_990_000 (kAt s size) 10_010_000
+  unfolding lastOf kAt
   k-between size h =
-      value-size (figureOf s scale 0) (rowsOf s scale) (stepOf scale) size (lit< tt) (some scale (omega arith) (omega arith)) h 9_990_000 10_010_000 k-row
+      value-size (figureOf s scale 0) (rowsOf s scale) (stepOf s scale) size (above scale (omega arith) (omega arith) (omega arith)) (some scale (omega arith) (omega arith)) (h .most) 9_990_000 10_010_000 k-row

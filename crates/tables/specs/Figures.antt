@@ -4,21 +4,28 @@ use mathlib.Core.Bool.{Bool}
 use mathlib.Core.List.{List}
 use Prim.Native.Nat.{ℕ}
 use lib.IntN.{ℤ, pos, natAbs, _*ℤ_}
-use Rattle.entries.specs.Layout.{zone, latitude, longitude, northing, easting, scale, widthOf, stepOf}
-use Rattle.entries.specs.Entries.{bodyOf}
+use Rattle.entries.specs.Layout.{zone, latitude, longitude, northing, easting, scale, widthOf, oneMinute}
+use Rattle.entries.specs.Entries.{bodyOf, stepOf}
 use Rattle.reading.specs.Tables.{column, valueAt, valueHalf}
 
 -- The figure in row i of a column of the kind.
 abbrev pub figureOf : List ℕ → ℕ → ℕ → ℕ → ℤ
 figureOf s kind number i = column (bodyOf s kind) (widthOf kind) number i
 
--- The figure of a column of the kind at an offset from row 0, by "Rounding and reading between rows" with the kind's step.
+-- The figure of a column of the kind at an offset from row 0, by "Rounding and reading between rows" with the sheet's step of the kind.
 abbrev pub figureAt : List ℕ → ℕ → ℕ → ℕ → ℤ
-figureAt s kind number offset = valueAt (column (bodyOf s kind) (widthOf kind) number) (stepOf kind) offset
+figureAt s kind number offset = valueAt (figureOf s kind number) (stepOf s kind) offset
+
+-- The figure of a latitude column at a distance t from row 0: the rows stand a minute apart.
+abbrev pub latitudeAt : List ℕ → ℕ → ℕ → ℤ
+latitudeAt s number t = valueAt (figureOf s latitude number) oneMinute t
 
 -- Whether it was rounded from a half. `y0Half`, `hHalf` and so on, below, say so of the figure above them.
 abbrev pub figureHalf : List ℕ → ℕ → ℕ → ℕ → Bool
-figureHalf s kind number offset = valueHalf (column (bodyOf s kind) (widthOf kind) number) (stepOf kind) offset
+figureHalf s kind number offset = valueHalf (figureOf s kind number) (stepOf s kind) offset
+
+abbrev pub latitudeHalf : List ℕ → ℕ → ℕ → Bool
+latitudeHalf s number t = valueHalf (figureOf s latitude number) oneMinute t
 
 -- ---- zone: "central meridian (0.001″); false easting C (0.01 ft)"
 unfoldable pub centralMeridian : List ℕ → ℤ
@@ -30,7 +37,7 @@ falseEasting s = figureOf s zone 1 0
 -- ---- latitude: "minute; y0 (0.01 ft); Δy .. ; H (0.000001); ΔH .. ; V (0.000001); ΔV .. ; a (0.001)". The differences are not read.
 -- The latitude of row 0, in 0.001″, from its minute.
 unfoldable pub firstLatitude : List ℕ → ℤ
-firstLatitude s = figureOf s latitude 0 0 *ℤ pos (stepOf latitude)
+firstLatitude s = figureOf s latitude 0 0 *ℤ pos oneMinute
 
 -- y0 in row i.
 unfoldable pub y0Of : List ℕ → ℕ → ℤ
@@ -38,28 +45,28 @@ y0Of s i = figureOf s latitude 1 i
 
 -- At a distance t from row 0, in 0.001″ of latitude: "From latitude take y0, H, V, a".
 unfoldable pub y0At : List ℕ → ℕ → ℤ
-y0At s t = figureAt s latitude 1 t
+y0At s t = latitudeAt s 1 t
 
 unfoldable pub y0Half : List ℕ → ℕ → Bool
-y0Half s t = figureHalf s latitude 1 t
+y0Half s t = latitudeHalf s 1 t
 
 unfoldable pub hAt : List ℕ → ℕ → ℕ
-hAt s t = natAbs (figureAt s latitude 3 t)
+hAt s t = natAbs (latitudeAt s 3 t)
 
 unfoldable pub hHalf : List ℕ → ℕ → Bool
-hHalf s t = figureHalf s latitude 3 t
+hHalf s t = latitudeHalf s 3 t
 
 unfoldable pub vAt : List ℕ → ℕ → ℕ
-vAt s t = natAbs (figureAt s latitude 5 t)
+vAt s t = natAbs (latitudeAt s 5 t)
 
 unfoldable pub vHalf : List ℕ → ℕ → Bool
-vHalf s t = figureHalf s latitude 5 t
+vHalf s t = latitudeHalf s 5 t
 
 unfoldable pub aAt : List ℕ → ℕ → ℤ
-aAt s t = figureAt s latitude 7 t
+aAt s t = latitudeAt s 7 t
 
 unfoldable pub aHalf : List ℕ → ℕ → Bool
-aHalf s t = figureHalf s latitude 7 t
+aHalf s t = latitudeHalf s 7 t
 
 -- ---- longitude: "b (0.001); c (0.001)", at a size of L in 0.001″
 unfoldable pub bAt : List ℕ → ℕ → ℤ

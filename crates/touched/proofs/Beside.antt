@@ -11,22 +11,23 @@ use mir.Syntax.{w64}
 use mir.Val.{Fits, ofZ}
 use Rattle.figures.proofs.Holds.{Holds, held-result, renamed}
 use Rattle.words.proofs.Refusals.{where-below, where-beyond}
+use Rattle.rules.specs.Latitude.{mostRise}
 use Rattle.entries.specs.Layout.{latitude}
 use Rattle.entries.specs.Entries.{rowsOf}
 use Rattle.contents.proofs.Passing.{rows-least}
 use Rattle.bodies.specs.Check.{checkOf}
+use Rattle.bodies.proofs.Known.{contents-none}
 use Rattle.tables.specs.Figures.{y0Of}
-use Rattle.tables.proofs.Parts.{contents-none}
-use Rattle.extent.proofs.Counts.{count-small}
+use Rattle.extent.proofs.Reach.{latitude-count}
 use Rattle.touched.specs.Touched.{abovePrior, belowNext}
 
 module _ (s : List ℕ) (r : ℕ) (z : ℤ) where
   -- the tests of the first row and of the last
   abbrev least : Bool
-  least = leZ (y0Of s (r + 1) -ℤ pos 615_000) z
+  least = leZ (y0Of s (r + 1) -ℤ pos mostRise) z
 
   abbrev greatest : Bool
-  greatest = leZ z (y0Of s (r - 1) +ℤ pos 615_000)
+  greatest = leZ z (y0Of s (r - 1) +ℤ pos mostRise)
 
   module _ (y′ z′ : ℤ) (same : z′ ≡ z) where
     -- ---- y is y0 of the row beside it
@@ -39,11 +40,11 @@ module _ (s : List ℕ) (r : ℕ) (z : ℤ) where
     below-is y g h e = rw (g, e, same) (sym (where-below (r + 1) (rowsOf s latitude) (ltZ z (y0Of s (r + 1))) greatest h))
 
     -- ---- there is none
-    pub from-least : r ≤ 0 → y′ ≡ y0Of s (r + 1) -ℤ pos 615_000 → leZ y′ z′ ≡ abovePrior s r z
+    pub from-least : r ≤ 0 → y′ ≡ y0Of s (r + 1) -ℤ pos mostRise → leZ y′ z′ ≡ abovePrior s r z
     unfolding abovePrior
     from-least h e = rw (e, same) (sym (where-beyond 0 r (ltZ (y0Of s (r - 1)) z) least h))
 
-    pub to-greatest : rowsOf s latitude ≤ r + 1 → y′ ≡ y0Of s (r - 1) +ℤ pos 615_000 → leZ z′ y′ ≡ belowNext s r z
+    pub to-greatest : rowsOf s latitude ≤ r + 1 → y′ ≡ y0Of s (r - 1) +ℤ pos mostRise → leZ z′ y′ ≡ belowNext s r z
     unfolding belowNext
     to-greatest h e = rw (e, same) (sym (where-beyond (r + 1) (rowsOf s latitude) (ltZ z (y0Of s (r + 1))) greatest h))
 
@@ -53,7 +54,7 @@ module _ (s : List ℕ) (r : ℕ) (z : ℤ) where
 
 -- the row after it has a number
 pub next-fits : (s : List ℕ) → checkOf s .number ≡ 0 → (r : ℕ) → r < rowsOf s latitude → Fits w64 (r + 1)
-next-fits s z r h = record { fits = omega (arith, h, count-small s latitude z (lit≤ tt) (lit≤ tt)) }
+next-fits s z r h = record { fits = omega (arith, h, latitude-count s z) }
 
 -- there are two rows or more
 pub two-rows : (s : List ℕ) → checkOf s .number ≡ 0 → 2 ≤ rowsOf s latitude

@@ -8,7 +8,8 @@ use lib.Dec.{ltb}
 use lib.IntN.{ℤ, pos, natAbs, _+ℤ_, _-ℤ_, _*ℤ_}
 use lib.Signed.{leZ, ltZ}
 use Rattle.words.specs.Ladder.{need, whereBelow}
-use Rattle.entries.specs.Layout.{latitude, stepOf}
+use Rattle.rules.specs.Latitude.{mostRise}
+use Rattle.entries.specs.Layout.{latitude, oneMinute}
 use Rattle.entries.specs.Entries.{rowsOf, bodyOf}
 use Rattle.tables.specs.Figures.{y0Of}
 use Rattle.extent.specs.Extent.{latitudeKnown, longitudeKnown, xPrime, eastingKnown, northingKnown}
@@ -34,7 +35,7 @@ rowNamed s minute = namedRow (bodyOf s latitude) minute
 -- ---- a geographic point
 -- The latitude lies less than a minute from the row's: in one of the two intervals beside it, and on neither of the rows next to it.
 unfoldable pub nearRow : ℤ → ℤ → Bool
-nearRow minute north = ltb (natAbs (north -ℤ minute *ℤ pos (stepOf latitude))) (stepOf latitude)
+nearRow minute north = ltb (natAbs (north -ℤ minute *ℤ pos oneMinute)) oneMinute
 
 -- What 10 or 11 refuses stays refused.
 unfoldable pub forwardTouched : List ℕ → ℤ → ℤ → ℤ → Bool
@@ -46,11 +47,11 @@ forwardTouched s minute north west =
 -- ---- a plane point, judged by its reduced northing
 -- It lies above y0 of the row before. The first row has none: there it is not below the least y0 that the bound with the next row allows, "y0 rises by 600,000 to 615,000".
 unfoldable pub abovePrior : List ℕ → ℕ → ℤ → Bool
-abovePrior s r reduced = whereBelow 0 r (ltZ (y0Of s (r - 1)) reduced) (leZ (y0Of s (r + 1) -ℤ pos 615_000) reduced)
+abovePrior s r reduced = whereBelow 0 r (ltZ (y0Of s (r - 1)) reduced) (leZ (y0Of s (r + 1) -ℤ pos mostRise) reduced)
 
 -- It lies below y0 of the next row. The last row has none: there it is not above the greatest y0 that the bound with the row before allows.
 unfoldable pub belowNext : List ℕ → ℕ → ℤ → Bool
-belowNext s r reduced = whereBelow (r + 1) (rowsOf s latitude) (ltZ reduced (y0Of s (r + 1))) (leZ reduced (y0Of s (r - 1) +ℤ pos 615_000))
+belowNext s r reduced = whereBelow (r + 1) (rowsOf s latitude) (ltZ reduced (y0Of s (r + 1))) (leZ reduced (y0Of s (r - 1) +ℤ pos mostRise))
 
 -- What 12 or 13 refuses stays refused. What 14 refuses may not, since a correction of the first row moves the first y0 and one of the last row the last; nor what 11 refuses, since
 -- L is worked from H and a.

@@ -10,9 +10,9 @@ ghost use lib.IntN.{pos, natAbs, _+ℤ_, _-ℤ_, _*ℤ_};
 ghost use lib.Signed.{nonNeg};
 ghost use lib.ListN.{length};
 ghost use Rattle.figures.specs.Ranges.{mostH, mostV, mostA, mostB, mostC, mostP, mostM, mostD, mostS, mostX, mostWord};
-ghost use Rattle.entries.specs.Layout.{latitude, longitude, easting, stepOf};
-ghost use Rattle.entries.specs.Entries.{rowsOf, placesOf};
-ghost use Rattle.bodies.specs.Check.{checkOf};
+ghost use Rattle.entries.specs.Layout.{latitude, longitude, easting};
+ghost use Rattle.entries.specs.Entries.{Within};
+ghost use Rattle.bodies.specs.Check.{KnownToPass};
 ghost use Rattle.extent.specs.Extent.{latitudeKnown, longitudeKnown, northingKnown};
 
 // Latitude, longitude, x and y, each as the form prints it. Indiana, document 000.
@@ -69,7 +69,7 @@ fn print_line(letter: &[u8], first: i32, second: i32, number: u32, third: i32, f
 
 // What the sheet has at the latitude's distance t from row 0.
 fn show_latitude(s: &[u8], p: Places, t: u64)
-    requires { ⌜ (checkOf (now s) .number ≡ 0) × (p ≡ placesOf (now s)) × (t ≤ (rowsOf (now s) latitude - 1) * stepOf latitude) ⌝ }
+    requires { ⌜ KnownToPass (now s) p × Within (now s) latitude t ⌝ }
 {
     print_figure(b" y0 ", tables::y0_at(s, p, t).value);
     print_size(b" H ", tables::h_at(s, p, t).value);
@@ -79,7 +79,7 @@ fn show_latitude(s: &[u8], p: Places, t: u64)
 
 // What it has at a size of L.
 fn show_longitude(s: &[u8], p: Places, size: u64)
-    requires { ⌜ (checkOf (now s) .number ≡ 0) × (p ≡ placesOf (now s)) × (size ≤ (rowsOf (now s) longitude - 1) * stepOf longitude) ⌝ }
+    requires { ⌜ KnownToPass (now s) p × Within (now s) longitude size ⌝ }
 {
     print_size(b" q ", steps::q_of(size).value);
     print_figure(b" b ", tables::b_at(s, p, size).value);
@@ -88,7 +88,7 @@ fn show_longitude(s: &[u8], p: Places, size: u64)
 
 // The figures of the way forward, of a latitude and a longitude within the tables.
 fn show_point(s: &[u8], p: Places, latitude: i32, longitude: i32)
-    requires { ⌜ (checkOf (now s) .number ≡ 0) × (p ≡ placesOf (now s)) × (latitudeKnown (now s) latitude ≡ true) × (longitudeKnown (now s) longitude ≡ true) ⌝ }
+    requires { ⌜ KnownToPass (now s) p × (latitudeKnown (now s) latitude ≡ true) × (longitudeKnown (now s) longitude ≡ true) ⌝ }
 {
     let t = extent::from_first(s, p, latitude) as u64;
     let l = extent::l_of(s, p, longitude);
@@ -100,7 +100,7 @@ fn show_point(s: &[u8], p: Places, latitude: i32, longitude: i32)
 
 // A station forward, with the figures on the way.
 fn forward(s: &[u8], p: Places, latitude: i32, longitude: i32)
-    requires { ⌜ (checkOf (now s) .number ≡ 0) × (p ≡ placesOf (now s)) ⌝ }
+    requires { ⌜ KnownToPass (now s) p ⌝ }
 {
     let r = convert::geographic_to_plane(s, latitude, longitude);
     print_line(b"G", latitude, longitude, r.number, r.x, r.y);
@@ -115,7 +115,7 @@ fn forward(s: &[u8], p: Places, latitude: i32, longitude: i32)
 
 // The figures of the way back as far as the reduced northing, at the size x of x′ and y.
 fn show_reduction(s: &[u8], p: Places, x: u64, y: i32)
-    requires { ⌜ (checkOf (now s) .number ≡ 0) × (p ≡ placesOf (now s)) × (x ≤ (rowsOf (now s) easting - 1) * stepOf easting) × (northingKnown (now s) y ≡ true) ⌝ }
+    requires { ⌜ KnownToPass (now s) p × Within (now s) easting x × (northingKnown (now s) y ≡ true) ⌝ }
 {
     let north = y as i64;
     let big_p = tables::p_at(s, p, north as u64).value;
@@ -130,7 +130,7 @@ fn show_reduction(s: &[u8], p: Places, x: u64, y: i32)
 
 // A station back, with the figures on the way.
 fn back(s: &[u8], p: Places, x: i32, y: i32)
-    requires { ⌜ (checkOf (now s) .number ≡ 0) × (p ≡ placesOf (now s)) ⌝ }
+    requires { ⌜ KnownToPass (now s) p ⌝ }
 {
     let r = convert::plane_to_geographic(s, x, y);
     print_line(b"P", x, y, r.number, r.latitude, r.longitude);
@@ -146,7 +146,7 @@ fn back(s: &[u8], p: Places, x: i32, y: i32)
 
 // A station, at its latitude, longitude, x and y: forward, back, and its convergence and scale.
 fn station(s: &[u8], p: Places, point: [i32; 4])
-    requires { ⌜ (checkOf (now s) .number ≡ 0) × (p ≡ placesOf (now s)) ⌝ }
+    requires { ⌜ KnownToPass (now s) p ⌝ }
 {
     forward(s, p, point[0], point[1]);
     back(s, p, point[2], point[3]);
@@ -156,7 +156,7 @@ fn station(s: &[u8], p: Places, point: [i32; 4])
 
 // Every station of a table.
 fn station_each(s: &[u8], p: Places, points: &[[i32; 4]])
-    requires { ⌜ (checkOf (now s) .number ≡ 0) × (p ≡ placesOf (now s)) ⌝ }
+    requires { ⌜ KnownToPass (now s) p ⌝ }
 {
     let mut k = 0;
     while k < points.len() {

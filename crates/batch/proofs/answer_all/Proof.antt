@@ -41,7 +41,7 @@ loop-again c =
     let t = c .before .answer-one in
     let l = c .before .before .before .before .loop in
     let start = c .before .before .before .before .before .before in
-    let fits = room _ _ (start .pre .2) in (
+    let fits = room _ _ (start .pre .1) in (
       search needs,
       t .kept .1 .1 .1 .0 ∙ l .inv .1,
       t .ensures .2 ∙ rw (l .inv .2) (written (now (start .args .s)) (now (start .args .points)) (now (start .args .answers)) (l .i) (omega (arith, fits .1))),
@@ -53,13 +53,13 @@ loop-again c =
 answer-one-requires : tie.Need-answer-one-requires Inv-loop μ-loop
 answer-one-requires c κs =
     let start = c .before .before .before .before in
-    let fits = room _ _ (start .pre .2) in
-    (start .pre .0, start .pre .1, omega arith, omega (arith, fits .1))
+    let fits = room _ _ (start .pre .1) in
+    (start .pre .0, omega arith, omega (arith, fits .1))
 
 add-count : tie.Need-add-count Inv-loop μ-loop
 add-count c =
     let start = c .before .before .before .before .before .before in
-    let fits = room _ _ (start .pre .2) in
+    let fits = room _ _ (start .pre .1) in
     record { fits = omega (arith, fits .0, c .before .answer-one .ensures .1, c .before .before .before .before .loop .inv .4) }
 
 add-i : tie.Need-add-i Inv-loop μ-loop

@@ -42,7 +42,7 @@ mul-put : tie.Need-mul-put
 mul-put c = search needs
 
 put-requires : tie.Need-put-requires
-put-requires c κs = (omega (arith, c .before .before .before .before .before .before .before .pre .3), rw (c .before .before .before .forward .ensures) (number-small _ _ _))
+put-requires c κs = (omega (arith, c .before .before .before .before .before .before .before .pre .2), rw (c .before .before .before .forward .ensures) (number-small _ _ _))
 
 same-length : tie.Need-same-length
 same-length c = search needs
@@ -56,7 +56,7 @@ returns c =
     let y : toZ w32 (ofZ w32 (r .y)) ≡ r .y = search needs in
     let u : toZ w32 (ofZ w32 (getD (now (a .points)) (2 * a .i) (pos 0))) ≡ getD (now (a .points)) (2 * a .i) (pos 0) = search needs in
     let v : toZ w32 (ofZ w32 (getD (now (a .points)) (2 * a .i + 1) (pos 0))) ≡ getD (now (a .points)) (2 * a .i + 1) (pos 0) = search needs in
-    let h : r ≡ pointAt (now (a .s)) (now (a .points)) (a .i) = forward-passes _ _ _ r (p .before .before .before .before .pre .0) (rw (u, v) at (p .forward .ensures)) in
+    let h : r ≡ pointAt (now (a .s)) (now (a .points)) (a .i) = forward-passes _ _ _ r (p .before .before .before .before .pre .0 .passes) (rw (u, v) at (p .forward .ensures)) in
     (rw (← h) (c .before .put .ensures .0), c .before .put .ensures .1, rw (← h) (rw (x, y) at (c .before .put .ensures .2)))
 
 pub answer-one-spec : {M : Type 1} → statement M

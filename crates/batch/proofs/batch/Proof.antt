@@ -35,7 +35,7 @@ places-of-requires c κs = sheet-long _ (sym (ap (λ v. v .number) (c .before .c
 answer-all-requires : tie.Need-answer-all-requires
 answer-all-requires c κs =
     let r = c .before in
-    (sym (ap (λ v. v .number) (r .before .before .check .ensures)) ∙ r .before .if2 .left, r .places-of .ensures, kept _ _ (r .before .before .before .before .is-taken .ensures) (r .before .before .before .if1 .left))
+    (record { passes = sym (ap (λ v. v .number) (r .before .before .check .ensures)) ∙ r .before .if2 .left; places = r .places-of .ensures }, kept _ _ (r .before .before .before .before .is-taken .ensures) (r .before .before .before .if1 .left))
 
 pub batch-spec : {M : Type 1} → statement M
 batch-spec =

@@ -31,7 +31,7 @@ returns-2 c =
     let put = c .before .before .answer in
     let known = c .before .before .before .before .before in
     let first = known .before .before .before .before in
-    (search needs, last-line (now (first .args .s)) _ (now (first .args .buffer)) _ _ _ (first .pre .2) (known .if1 .left) (put .ensures .1))
+    (search needs, last-line (now (first .args .s)) _ (now (first .args .buffer)) _ _ _ (first .pre .1) (known .if1 .left) (put .ensures .1))
 
 pub answer-last-spec : {M : Type 1} → statement M
 answer-last-spec =

@@ -28,7 +28,7 @@ loop-holds : tie.Need-loop-holds Inv-loop μ-loop
 loop-holds c =
     let first = c .before .before .before .before in
     let a = first .args in
-    (start (answering (now (a .s))) lineRoom (now (a .buffer)) _ _ tt (now (a .out)) (first .pre .2), c .line-end .ensures .0, c .line-end .ensures .1, refl)
+    (start (answering (now (a .s))) lineRoom (now (a .buffer)) _ _ tt (now (a .out)) (first .pre .1), c .line-end .ensures .0, c .line-end .ensures .1, refl)
 
 sub-answer : tie.Need-sub-answer Inv-loop μ-loop
 sub-answer c = search needs
@@ -57,7 +57,7 @@ loop-again c =
     let turn = c .before .before .before .before .before .before in
     let l = turn .before .loop in
     let first = turn .before .before .before .before .before .before in
-    (one-more (l .inv .0) (first .pre .3) _ (l .inv .1) (turn .loop-test .taken) (put .ensures .1) (put .ensures .0), c .line-end2 .ensures .0, c .line-end2 .ensures .1, put .kept .1 .1 .1 .0 ∙ l .inv .3)
+    (one-more (l .inv .0) (first .pre .2) _ (l .inv .1) (turn .loop-test .taken) (put .ensures .1) (put .ensures .0), c .line-end2 .ensures .0, c .line-end2 .ensures .1, put .kept .1 .1 .1 .0 ∙ l .inv .3)
 
 same-length : tie.Need-same-length Inv-loop μ-loop
 same-length c = search needs
@@ -66,8 +66,8 @@ returns : tie.Need-returns Inv-loop μ-loop
 returns c =
     let l = c .before .loop in
     let first = c .before .before .before .before .before .before in
-    let d = finished (l .inv .0) (first .pre .3) _ (l .inv .1) (c .loop-test .left) (l .inv .2) in
-    (l .inv .0 .inside, omega (arith, l .inv .0 .far, l .inv .0 .inside, first .pre .4), d .rest, rw (answering-is (now (first .args .s))) at (d .all))
+    let d = finished (l .inv .0) (first .pre .2) _ (l .inv .1) (c .loop-test .left) (l .inv .2) in
+    (l .inv .0 .inside, omega (arith, l .inv .0 .far, l .inv .0 .inside, first .pre .3), d .rest, rw (answering-is (now (first .args .s))) at (d .all))
 
 pub answer-lines-spec : {M : Type 1} → statement M
 answer-lines-spec =

@@ -2,7 +2,8 @@
 use native.Mathlib.Omega.{arith}
 use borrow.Author.Needs.{needs}
 use mathlib.Core.Path.{_≡_}
-use Prim.Native.Nat.{_-_, _≤_}
+use Prim.Native.Nat.{_+_, _-_, _≤_}
+use Rattle.entries.specs.Layout.{lastKind}
 use Rattle.contents.specs.Contents.{contentsOf}
 use Rattle.bodies.specs.Check.{bodiesOf, checkOf}
 use Rattle.bodies.proofs.ByKind.{contents-refuse, contents-pass, first-kind, kind-refused, kind-passed, kinds-end}
@@ -10,10 +11,10 @@ use Rattle.bodies.proofs.check.Statement.{statement}
 use Rattle.bodies.proofs.check.Tie as tie
 
 abbrev Inv-loop : tie.InvT-loop
-Inv-loop sheet number kind₀ kind = (1 ≤ kind) × (kind ≤ 7) × (contentsOf sheet .number ≡ 0) × (checkOf sheet ≡ bodiesOf sheet (7 - kind) kind)
+Inv-loop sheet number kind₀ kind = (1 ≤ kind) × (kind ≤ lastKind + 1) × (contentsOf sheet .number ≡ 0) × (checkOf sheet ≡ bodiesOf sheet (lastKind + 1 - kind) kind)
 
 abbrev μ-loop : tie.MeasureT-loop
-μ-loop sheet number kind₀ kind = 7 - kind
+μ-loop sheet number kind₀ kind = lastKind + 1 - kind
 
 returns : tie.Need-returns Inv-loop μ-loop
 returns c = search contents-refuse

@@ -2,10 +2,11 @@
 use native.Mathlib.Omega.{arith}
 use borrow.Author.Needs.{needs}
 use mathlib.Core.Path.{_≡_}
+use native.Mathlib.Nat.{sub-zero}
 use Prim.Native.Nat.{_+_, _*_, _-_, _≤_}
 use Rattle.words.specs.Faults.{firstFault}
 use Rattle.words.proofs.FirstFault.{on, here, end}
-use Rattle.entries.specs.Layout.{entryCount, firstBody}
+use Rattle.entries.specs.Layout.{mostFirst, mostWidth}
 use Rattle.entries.specs.Entries.{dueAt}
 use Rattle.contents.specs.Contents.{entryFault}
 use Rattle.entries.proofs.Spans.{due-next}
@@ -14,12 +15,12 @@ use Rattle.contents.proofs.entries.Statement.{statement}
 use Rattle.contents.proofs.entries.Tie as tie
 
 abbrev Inv-loop : tie.InvT-loop
-Inv-loop s due₀ e₀ due e =
-    (e ≤ entryCount) × (due ≡ dueAt s e) × (due ≤ firstBody + e * 34_359_738_368)
-    × (firstFault (entryFault s) entryCount 0 ≡ firstFault (entryFault s) (entryCount - e) e)
+Inv-loop s f due₀ e₀ due e =
+    (e ≤ f .kinds) × (due ≡ dueAt f s e) × (due ≤ mostFirst + e * (4_294_967_296 * mostWidth))
+    × (firstFault (entryFault f s) (f .kinds) 0 ≡ firstFault (entryFault f s) (f .kinds - e) e)
 
 abbrev μ-loop : tie.MeasureT-loop
-μ-loop s due₀ e₀ due e = entryCount - e
+μ-loop s f due₀ e₀ due e = f .kinds - e
 
 returns : tie.Need-returns Inv-loop μ-loop
 returns c = search here
@@ -27,9 +28,12 @@ returns c = search here
 returns-2 : tie.Need-returns-2 Inv-loop μ-loop
 returns-2 c = search end
 
+first-body-requires : tie.Need-first-body-requires Inv-loop μ-loop
+first-body-requires c κs = search needs
+
 loop-holds : tie.Need-loop-holds Inv-loop μ-loop
 unfolding dueAt
-loop-holds c = search needs
+loop-holds c = (omega arith, search needs, omega arith, rw sub-zero)
 
 entry-fault-requires : tie.Need-entry-fault-requires Inv-loop μ-loop
 entry-fault-requires c κs = search needs
@@ -55,6 +59,7 @@ entries-spec =
     (tie.spec
     Inv-loop
     μ-loop
+    first-body-requires
     loop-holds
     entry-fault-requires
     returns

@@ -3,17 +3,16 @@ use native.Mathlib.Omega.{arith}
 use borrow.Author.Needs.{needs}
 use mathlib.Core.Path.{_≡_}
 use Prim.Native.Nat.{_≤_}
-use Rattle.entries.specs.Layout.{entryCount}
 use Rattle.entries.specs.Entries.{entryOf}
 use Rattle.entries.proofs.Search.{found-here, found-on, found-end}
 use Rattle.entries.proofs.entry_of.Statement.{statement}
 use Rattle.entries.proofs.entry_of.Tie as tie
 
 abbrev Inv-loop : tie.InvT-loop
-Inv-loop s kind e₀ e = (e ≤ entryCount) × (entryOf s kind entryCount ≡ entryOf s kind e)
+Inv-loop s f kind e₀ e = (e ≤ f .kinds) × (entryOf f s kind (f .kinds) ≡ entryOf f s kind e)
 
 abbrev μ-loop : tie.MeasureT-loop
-μ-loop s kind e₀ e = e
+μ-loop s f kind e₀ e = e
 
 returns : tie.Need-returns Inv-loop μ-loop
 returns c = (search found-here, omega arith)

@@ -3,17 +3,16 @@ use native.Mathlib.Omega.{arith}
 use borrow.Author.Needs.{needs}
 use mathlib.Core.Path.{_≡_}
 use Prim.Native.Nat.{_≤_}
-use Rattle.entries.specs.Layout.{entryCount}
 use Rattle.entries.specs.Entries.{named}
 use Rattle.entries.proofs.Search.{named-here, named-on, named-end}
 use Rattle.entries.proofs.is_named.Statement.{statement}
 use Rattle.entries.proofs.is_named.Tie as tie
 
 abbrev Inv-loop : tie.InvT-loop
-Inv-loop s kind n e₀ e = (e ≤ entryCount) × (named s kind n ≡ named s kind e)
+Inv-loop s f kind n e₀ e = (e ≤ f .kinds) × (named f s kind n ≡ named f s kind e)
 
 abbrev μ-loop : tie.MeasureT-loop
-μ-loop s kind n e₀ e = e
+μ-loop s f kind n e₀ e = e
 
 returns : tie.Need-returns Inv-loop μ-loop
 returns c = search named-here

@@ -1,5 +1,6 @@
 -- `entries::span_at` meets its contract. Assumes nothing.
 use Prim.Native.Nat.{_*_, _<_}
+use Rattle.entries.specs.Layout.{mostWidth}
 use Rattle.entries.proofs.Spans.{span-small, span-is}
 use native.Mathlib.Omega.{arith}
 use borrow.Author.Needs.{needs}
@@ -19,7 +20,7 @@ width-of-requires : tie.Need-width-of-requires
 width-of-requires c κs = search needs
 
 mul-result : tie.Need-mul-result
-mul-result c = let small : c .before .before .rows-at .result * c .width-of .result < 34_359_738_368 = search span-small in omega arith
+mul-result c = let small : c .before .before .rows-at .result * c .width-of .result < 4_294_967_296 * mostWidth = search span-small in omega arith
 
 pub span-at-spec : {M : Type 1} → statement M
 span-at-spec =

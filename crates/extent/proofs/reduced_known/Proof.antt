@@ -19,7 +19,7 @@ returns c =
     let low : toZ w64 (ofZ w64 (c .before .before .y0-of .result)) ≡ c .before .before .y0-of .result = search needs in
     let high : toZ w64 (ofZ w64 (c .y0-of2 .result)) ≡ c .y0-of2 .result = search needs in
     rw (z, low, high)
-    (from-first-to-last (y0Of _) (start .args .reduced) (c .before .before .y0-of .ensures .0) (c .y0-of2 .ensures .0) (count-is _ (start .pre .0) _ (start .pre .1)))
+    (from-first-to-last (y0Of _) (start .args .reduced) (c .before .before .y0-of .ensures .0) (c .y0-of2 .ensures .0) (count-is _ _ (start .pre)))
 
 y0-of-requires : tie.Need-y0-of-requires
 y0-of-requires c κs = search (latitude-some, needs)

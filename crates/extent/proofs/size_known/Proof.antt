@@ -3,7 +3,7 @@ use mathlib.Core.Path.{_≡_, _∙_}
 use mir.Syntax.{w64}
 use mir.Val.{toZ, ofZ}
 use Rattle.extent.specs.Extent.{sizeKnown}
-use Rattle.tables.proofs.ByName.{longitude-place}
+use Rattle.bodies.proofs.Known.{longitude-placed}
 use borrow.Author.Needs.{needs}
 use Rattle.extent.proofs.size_known.Statement.{statement}
 use Rattle.extent.proofs.size_known.Tie as tie
@@ -15,7 +15,7 @@ returns c =
     c .within .ensures ∙ rw z
 
 within-requires : tie.Need-within-requires
-within-requires c κs = search (longitude-place, needs)
+within-requires c κs = search longitude-placed
 
 pub size-known-spec : {M : Type 1} → statement M
 size-known-spec = tie.close (tie.spec within-requires returns)

@@ -49,7 +49,7 @@ longitude-known-requires c κs = search needs
 plane-at-requires : tie.Need-plane-at-requires
 plane-at-requires c κs =
     let start = c .before .before .before .before .before in
-    (start .pre .0, start .pre .1, kept _ _ (c .before .before .before .latitude-known .ensures) (c .before .before .if1 .left), kept _ _ (c .before .longitude-known .ensures) (c .if2 .left))
+    (start .pre, kept _ _ (c .before .before .before .latitude-known .ensures) (c .before .before .if1 .left), kept _ _ (c .before .longitude-known .ensures) (c .if2 .left))
 
 pub forward-spec : {M : Type 1} → statement M
 forward-spec =

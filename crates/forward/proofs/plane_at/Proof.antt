@@ -1,17 +1,17 @@
 -- `forward::plane_at` meets its contract. Assumes nothing.
 use mathlib.Core.Path.{_≡_, ap, _∙_}
-use Prim.Native.Nat.{_-_, _*_, _≤_}
+use Prim.Native.Nat.{_-_}
 use native.Mathlib.Omega.{arith}
 use denote.Ref.{now}
 use mir.Syntax.{w32, w64}
 use mir.Val.{toZ, ofZ}
-use Rattle.entries.specs.Layout.{longitude, stepOf}
-use Rattle.entries.specs.Entries.{rowsOf}
+use Rattle.entries.specs.Layout.{longitude}
+use Rattle.entries.specs.Entries.{Within}
 use Rattle.tables.specs.Figures.{bAt, bHalf}
 use Rattle.figures.proofs.Holds.{Holds, cast, cast-fits}
 use Rattle.tables.proofs.Answers.{size-is, size-fits}
 use Rattle.extent.specs.Extent.{fromFirst, lOf}
-use Rattle.extent.proofs.Reach.{latitude-reach, latitude-small, longitude-reach}
+use Rattle.extent.proofs.Reach.{latitude-reach, latitude-small, latitude-within, longitude-within}
 use Rattle.forward.proofs.Eastings.{plane-worked}
 use Rattle.figures.proofs.Bits.{bits-is, bits-below}
 use borrow.Author.Needs.{needs}
@@ -41,7 +41,7 @@ returns c =
     let worked = c .before .before .before .before .before .before in
     let start = worked .before .before .before .before .before .before .before .before in
     let distance = worked .before .before .before .before .before .before in
-    let t = size-is (distance .from-first .ok) (distance-is distance) (latitude-reach _ _ (start .pre .2)) in
+    let t = size-is (distance .from-first .ok) (distance-is distance) (latitude-reach _ _ (start .pre .1)) in
     let x = worked .before .x-of .ensures in
     let y = worked .y-of .ensures in
     plane-worked _ _ _ t (l-is (worked .before .before .before .before .before)) (worked .before .before .before .before .size .ensures)
@@ -59,7 +59,7 @@ from-first-requires c κs = search needs
 cast-t : tie.Need-cast-t
 cast-t c =
     let p = c .before .before .pre in
-    size-fits (c .from-first .ok) (distance-is c) (latitude-small _ (p .0) _ (p .2)) tt
+    size-fits (c .from-first .ok) (distance-is c) (latitude-small _ (p .0 .passes) _ (p .1)) tt
 
 l-of-requires : tie.Need-l-of-requires
 l-of-requires c κs = search needs
@@ -68,34 +68,34 @@ size-requires : tie.Need-size-requires
 size-requires c κs = bits-below (c .l-of .result) (c .l-of .ok) (c .l-of .ensures .1) tt
 
 -- the size of L is within its table
-size-reach : (c : tie.After-size) → let s = now (c .before .before .before .before .args .s) in c .size .result ≤ (rowsOf s longitude - 1) * stepOf longitude
-size-reach c = rw (c .size .ensures, l-is (c .before)) (longitude-reach _ _ (c .before .before .before .before .pre .3))
+size-reach : (c : tie.After-size) → Within (now (c .before .before .before .before .args .s)) longitude (c .size .result)
+size-reach c = rw (c .size .ensures, l-is (c .before)) (longitude-within _ _ (c .before .before .before .before .pre .2))
 
 c-at-requires : tie.Need-c-at-requires
 c-at-requires c κs =
     let p = c .before .before .before .before .pre in
-    (p .0, p .1, size-reach c)
+    (p .0, size-reach c)
 
 b-at-requires : tie.Need-b-at-requires
 b-at-requires c κs =
     let p = c .before .before .before .before .before .pre in
-    (p .0, p .1, omega (arith, size-reach (c .before)))
+    (p .0, size-reach (c .before))
 
 x-of-requires : tie.Need-x-of-requires
 x-of-requires c κs =
     let p = c .before .before .before .before .before .before .pre in
     let distance = c .before .before .before .before in
-    let t = size-is (distance .from-first .ok) (distance-is distance) (latitude-reach _ _ (p .2)) in
+    let t = size-is (distance .from-first .ok) (distance-is distance) (latitude-reach _ _ (p .1)) in
     let reach = size-reach (c .before .before) in
     let size = c .before .before .size .ensures in
-    (p .0, p .1, rw t (latitude-reach _ _ (p .2) .high), omega (arith, reach, size), c .b-at .ensures .0 ∙ ap (bAt _) (omega (arith, size)), c .b-at .ensures .2 ∙ ap (bHalf _) (omega (arith, size)))
+    (p .0, rw t (latitude-within _ (p .0 .passes) _ (p .1)), rw (← size) reach, c .b-at .ensures .0 ∙ ap (bAt _) (omega (arith, size)), c .b-at .ensures .2 ∙ ap (bHalf _) (omega (arith, size)))
 
 y-of-requires : tie.Need-y-of-requires
 y-of-requires c κs =
     let p = c .before .before .before .before .before .before .before .pre in
     let distance = c .before .before .before .before .before in
-    let t = size-is (distance .from-first .ok) (distance-is distance) (latitude-reach _ _ (p .2)) in
-    (p .0, p .1, rw t (latitude-reach _ _ (p .2) .high), size-reach (c .before .before .before), c .before .before .c-at .ensures .0, c .before .before .c-at .ensures .2)
+    let t = size-is (distance .from-first .ok) (distance-is distance) (latitude-reach _ _ (p .1)) in
+    (p .0, rw t (latitude-within _ (p .0 .passes) _ (p .1)), size-reach (c .before .before .before), c .before .before .c-at .ensures .0, c .before .before .c-at .ensures .2)
 
 pub plane-at-spec : {M : Type 1} → statement M
 plane-at-spec =

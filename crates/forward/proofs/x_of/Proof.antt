@@ -32,7 +32,7 @@ x-is c =
     let l : toZ w64 (ofZ w64 (start .args .l)) ≡ start .args .l = search needs in
     let size : toZ w64 (ofZ w64 (c .before .before .x-size .result .value)) ≡ c .before .before .x-size .result .value = search needs in
     let e = sign-worked _ _ _ l (size-is (c .before .before .before)) size (c .before .before .x-size .ensures .0) in
-    bits-hold (c .with-sign .ok) (c .with-sign .ensures ∙ e) (rw size-withSign (x-size _ (start .pre .0) _ (start .pre .2) _ (start .pre .3)))
+    bits-hold (c .with-sign .ok) (c .with-sign .ensures ∙ e) (rw size-withSign (x-size _ (start .pre .0 .passes) _ (start .pre .1) _ (start .pre .2)))
 
 easting : (c : tie.After-false-easting) → Holds w64 (ofZ w64 (c .false-easting .result)) (falseEasting (now (c .before .before .before .before .before .before .args .s))) 100_000_000
 easting c = bits-hold (c .false-easting .ok) (c .false-easting .ensures .0) (rw (c .false-easting .ensures .0) at (c .false-easting .ensures .1))
@@ -48,12 +48,12 @@ size-requires : tie.Need-size-requires
 size-requires c κs =
     let l : toZ w64 (ofZ w64 (c .before .args .l)) ≡ c .before .args .l = search needs in
     let p = c .before .pre in
-    size-small l (le-trans (s-most _ (p .0) _ (p .2) _ (p .3)) (lit≤ tt))
+    size-small l (le-trans (s-most _ (p .0 .passes) _ (p .1) _ (p .2)) (lit≤ tt))
 
 x-size-requires : tie.Need-x-size-requires
 x-size-requires c κs =
     let p = c .before .before .pre in
-    (p .0, p .1, p .2, rw (size-is c) (p .3), rw (size-is c) (p .4), rw (size-is c) (p .5))
+    (p .0, p .1, rw (size-is c) (p .2), rw (size-is c) (p .3), rw (size-is c) (p .4))
 
 with-sign-requires : tie.Need-with-sign-requires
 with-sign-requires c κs =

@@ -25,7 +25,7 @@ x-is c =
     let read = c .before .before .before in
     let start = c .before .before .before .before .before .before in
     let h = read .before .h-at in
-    c .size-of-x .ensures .0 ∙ x-worked _ _ _ (h .ensures .0) (a-is read) (read .a-at .ensures .0) (b-is read) (start .pre .4)
+    c .size-of-x .ensures .0 ∙ x-worked _ _ _ (h .ensures .0) (a-is read) (read .a-at .ensures .0) (b-is read) (start .pre .3)
 
 returns : tie.Need-returns
 returns c =
@@ -34,8 +34,8 @@ returns c =
     let p = worked .before .before .before .before .before .before .pre in
     let h = read .before .h-at in
     let a = read .a-at in
-    let x = read-signed-is (x-is worked) (x-between _ (p .0) _ (p .2) _ (p .3) (x-is worked)) tt in
-    (x .0, x .1, x-marked _ _ _ (h .ensures .0) (a-is read) (a .ensures .0) (b-is read) (p .4) (h .ensures .3) (a .ensures .2) (p .5) (worked .size-of-x .ensures .1))
+    let x = read-signed-is (x-is worked) (x-between _ (p .0 .passes) _ (p .1) _ (p .2) (x-is worked)) tt in
+    (x .0, x .1, x-marked _ _ _ (h .ensures .0) (a-is read) (a .ensures .0) (b-is read) (p .3) (h .ensures .3) (a .ensures .2) (p .4) (worked .size-of-x .ensures .1))
 
 h-at-requires : tie.Need-h-at-requires
 h-at-requires c κs = search needs
@@ -50,17 +50,17 @@ size-of-x-requires c κs =
     let h = read .before .h-at in
     let a = read .a-at in (
       h .ensures .2,
-      s-most _ (p .0) _ (p .2) _ (p .3),
+      s-most _ (p .0 .passes) _ (p .1) _ (p .2),
       rw (a-is read) (a .ensures .1),
-      rw (b-is read, p .4) (b-between _ (p .0) _ (p .3)),
-      x-asked _ (p .0) _ (p .2) _ (p .3) (h .ensures .0) (a-is read) (a .ensures .0) (b-is read) (p .4),
+      rw (b-is read, p .3) (b-between _ (p .0 .passes) _ (p .2)),
+      x-asked _ (p .0 .passes) _ (p .1) _ (p .2) (h .ensures .0) (a-is read) (a .ensures .0) (b-is read) (p .3),
     )
 
 cast-t9 : tie.Need-cast-t9
 cast-t9 c =
     let worked = c .before in
     let p = worked .before .before .before .before .before .before .pre in
-    read-signed (x-is worked) (x-between _ (p .0) _ (p .2) _ (p .3) (x-is worked)) tt
+    read-signed (x-is worked) (x-between _ (p .0 .passes) _ (p .1) _ (p .2) (x-is worked)) tt
 
 pub x-size-spec : {M : Type 1} → statement M
 x-size-spec = tie.close (tie.spec h-at-requires a-at-requires size-of-x-requires cast-t9 returns)

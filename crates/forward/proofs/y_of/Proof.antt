@@ -27,8 +27,8 @@ module _ (c : tie.After-rise) where
       let start = c .before .before .before .before .before .before in
       let p = start .pre in
       let bits : toZ w64 (ofZ w64 (c .rise .result .value)) ≡ c .rise .result .value = search needs in
-      let e = rise-worked _ _ _ (c .before .before .before .v-at .ensures .0) (c .before .before .before .before .q-of .ensures .0) (c-is start) (p .4) in
-      record { is = bits ∙ c .rise .ensures .0 ∙ e; size = y-rise _ (p .0) _ (p .2) _ (p .3) }
+      let e = rise-worked _ _ _ (c .before .before .before .v-at .ensures .0) (c .before .before .before .before .q-of .ensures .0) (c-is start) (p .3) in
+      record { is = bits ∙ c .rise .ensures .0 ∙ e; size = y-rise _ (p .0 .passes) _ (p .1) _ (p .2) }
 
   y0-is : Holds w64 (ofZ w64 (c .before .before .y0-at .result .value)) (y0At (now (c .before .before .before .before .before .before .args .s)) (c .before .before .before .before .before .before .args .t)) 999_999_999
   y0-is =
@@ -45,10 +45,10 @@ returns c =
     let v = worked .before .before .before .v-at in
     let q = worked .before .before .before .before .q-of in
     let whole = sum (y0-is worked) (rise-is worked) tt in
-    (whole .is, rw (whole .is) (whole .size), y-marked _ _ _ (v .ensures .0) (q .ensures .0) (c-is start) (p .4) (worked .before .before .y0-at .ensures .2) (v .ensures .2) (p .5) (q .ensures .1) (worked .rise .ensures .1))
+    (whole .is, rw (whole .is) (whole .size), y-marked _ _ _ (v .ensures .0) (q .ensures .0) (c-is start) (p .3) (worked .before .before .y0-at .ensures .2) (v .ensures .2) (p .4) (q .ensures .1) (worked .rise .ensures .1))
 
 q-of-requires : tie.Need-q-of-requires
-q-of-requires c κs = let p = c .before .pre in s-most _ (p .0) _ (p .2) _ (p .3)
+q-of-requires c κs = let p = c .before .pre in s-most _ (p .0 .passes) _ (p .1) _ (p .2)
 
 v-at-requires : tie.Need-v-at-requires
 v-at-requires c κs = search needs
@@ -60,8 +60,8 @@ rise-requires : tie.Need-rise-requires
 rise-requires c κs =
     let start = c .before .before .before .before .before in
     let p = start .pre in
-    let q : c .before .before .before .q-of .result .value ≤ mostQ = rw (c .before .before .before .q-of .ensures .0) (q-most _ (s-most _ (p .0) _ (p .2) _ (p .3))) in
-    (c .before .before .v-at .ensures .1, q, rw (c-is start, p .4) (c-between _ (p .0) _ (p .3)))
+    let q : c .before .before .before .q-of .result .value ≤ mostQ = rw (c .before .before .before .q-of .ensures .0) (q-most _ (s-most _ (p .0 .passes) _ (p .1) _ (p .2))) in
+    (c .before .before .v-at .ensures .1, q, rw (c-is start, p .3) (c-between _ (p .0 .passes) _ (p .2)))
 
 add-t10 : tie.Need-add-t10
 add-t10 c = sum-fits (y0-is (c .before .before .before .before)) (rise-is (c .before .before .before .before)) tt

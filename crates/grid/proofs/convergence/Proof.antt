@@ -55,7 +55,7 @@ northing-known-requires c κs = search needs
 grid-at-requires : tie.Need-grid-at-requires
 grid-at-requires c κs =
     let p = c .before .before .before .before .before .before .pre in
-    (p .0, p .1, kept _ _ (c .before .before .before .scale-known .ensures) (c .before .before .if1 .left), kept _ _ (c .before .northing-known .ensures) (c .if2 .left))
+    (p, kept _ _ (c .before .before .before .scale-known .ensures) (c .before .before .if1 .left), kept _ _ (c .before .northing-known .ensures) (c .if2 .left))
 
 pub convergence-spec : {M : Type 1} → statement M
 convergence-spec =

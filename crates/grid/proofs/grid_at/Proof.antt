@@ -9,7 +9,7 @@ use mir.Val.{toZ, ofZ}
 use Rattle.figures.proofs.Sizes.{size-nonNeg}
 use Rattle.figures.proofs.Holds.{Holds, unsigned-fits, cast, cast-fits}
 use Rattle.tables.specs.Figures.{kAt}
-use Rattle.extent.proofs.Reach.{northing-reach, scale-reach}
+use Rattle.extent.proofs.Reach.{northing-reach, northing-within, scale-within}
 use Rattle.extent.proofs.Points.{wide, wide-fits, size-small}
 use Rattle.grid.specs.Grid.{convergenceAt}
 use Rattle.grid.proofs.Convergences.{convergence-worked, grid-marked, grid-worked, xp-most, convergence-small}
@@ -38,7 +38,7 @@ alpha-is c =
     let p = start .pre in
     let bits : toZ w64 (ofZ w64 (c .convergence .result .value)) ≡ c .convergence .result .value = search needs in
     let worked = convergence-worked _ _ _ (xp-is start) (wide (start .fits .y) .is) (c .before .before .before .m-at .ensures .0) in
-    record { is = bits ∙ c .convergence .ensures .0 ∙ worked; size = convergence-small _ _ _ (p .0) (p .2) (p .3) }
+    record { is = bits ∙ c .convergence .ensures .0 ∙ worked; size = convergence-small _ _ _ (p .0 .passes) (p .1) (p .2) }
 
 returns : tie.Need-returns
 returns c =
@@ -53,27 +53,27 @@ cast-m-at : tie.Need-cast-m-at
 cast-m-at c = wide-fits (c .before .fits .y)
 
 cast-m-at-2 : tie.Need-cast-m-at-2
-cast-m-at-2 c = unsigned-fits (wide (c .before .fits .y)) (size-nonNeg (northing-reach _ _ (c .before .pre .3))) tt
+cast-m-at-2 c = unsigned-fits (wide (c .before .fits .y)) (size-nonNeg (northing-reach _ _ (c .before .pre .2))) tt
 
 m-at-requires : tie.Need-m-at-requires
 m-at-requires c κs =
     let p = c .before .pre in
-    (p .0, p .1, rw (wide (c .before .fits .y) .is) (northing-reach _ _ (p .3) .high))
+    (p .0, rw (wide (c .before .fits .y) .is) (northing-within _ _ (p .2)))
 
 size-requires : tie.Need-size-requires
 size-requires c κs =
     let start = c .before .before in
-    size-small (xp-is start) (le-trans (xp-most _ _ (start .args .y) (start .pre .0) (start .pre .2)) (lit≤ tt))
+    size-small (xp-is start) (le-trans (xp-most _ _ (start .args .y) (start .pre .0 .passes) (start .pre .1)) (lit≤ tt))
 
 k-at-requires : tie.Need-k-at-requires
 k-at-requires c κs =
     let p = c .before .before .before .pre in
-    (p .0, p .1, rw (size-is c) (scale-reach _ _ (p .2)))
+    (p .0, rw (size-is c) (scale-within _ _ (p .1)))
 
 convergence-requires : tie.Need-convergence-requires
 convergence-requires c κs =
     let start = c .before .before .before .before in
-    (c .before .before .m-at .ensures .1, rw (xp-is start) (le-trans (xp-most _ _ (start .args .y) (start .pre .0) (start .pre .2)) (lit≤ tt)))
+    (c .before .before .m-at .ensures .1, rw (xp-is start) (le-trans (xp-most _ _ (start .args .y) (start .pre .0 .passes) (start .pre .1)) (lit≤ tt)))
 
 cast-t10 : tie.Need-cast-t10
 cast-t10 c = cast-fits (alpha-is (c .before .before)) tt

@@ -3,7 +3,7 @@ use mathlib.Core.Path.{_≡_, ap, _∙_}
 use Prim.Native.Nat.{ℕ, _*_, _≤_}
 use native.Mathlib.Omega.{arith}
 use denote.Ref.{now}
-use Rattle.tables.proofs.Past.{distanceAt, past-reach}
+use Rattle.tables.proofs.Past.{distanceAt, past-within}
 use Rattle.inverse.specs.Inverse.{approximateOf}
 use Rattle.inverse.proofs.Longitudes.{x-small, approximate-worked, approximate-small}
 use borrow.Author.Needs.{needs}
@@ -15,7 +15,7 @@ approximate-is : (c : tie.After-approximate-l)
 approximate-is c = ap (λ (n : ℕ). n * 1_000) (c .approximate-l .ensures .0) ∙ approximate-worked _ _ _ (c .before .h-past .ensures .0)
 
 small : (c : tie.After-approximate-l) → c .approximate-l .result .value * 1_000 ≤ 30_000_000
-small c = let p = c .before .before .before .pre in rw (approximate-is c) (approximate-small _ (p .0) _ _ (p .2) (past-reach _ _ _ _ (p .3) (p .4)))
+small c = let p = c .before .before .before .pre in rw (approximate-is c) (approximate-small _ (p .0 .passes) _ _ (p .1) (past-within _ (p .0 .passes) _ _ (p .2) (p .3)))
 
 returns : tie.Need-returns
 returns c =
@@ -29,7 +29,7 @@ h-past-requires c κs = search needs
 approximate-l-requires : tie.Need-approximate-l-requires
 approximate-l-requires c κs =
     let p = c .before .before .pre in
-    (x-small _ (p .0) _ _ (p .2) (past-reach _ _ _ _ (p .3) (p .4)), omega (arith, c .h-past .ensures .1), c .h-past .ensures .2)
+    (x-small _ (p .0 .passes) _ _ (p .1) (past-within _ (p .0 .passes) _ _ (p .2) (p .3)), omega (arith, c .h-past .ensures .1), c .h-past .ensures .2)
 
 mul-t7 : tie.Need-mul-t7
 mul-t7 c = record { fits = omega (arith, small (c .before)) }

@@ -4,7 +4,6 @@ use denote.Ref.{now}
 use mir.Syntax.{w64}
 use mir.Val.{toZ, ofZ}
 use Rattle.words.proofs.Refusals.{stop, go, kept}
-use Rattle.tables.proofs.ByName.{latitude-place}
 use Rattle.extent.specs.Extent.{reducedKnown}
 use Rattle.extent.proofs.Reach.{reduced-reach}
 use Rattle.inverse.specs.Inverse.{rowOf, fromReduced}
@@ -42,14 +41,14 @@ row-with-next-requires c κs =
     let start = c .before .before .before in
     let p = start .pre in
     let known = kept _ _ (c .before .reduced-known .ensures) (c .if1 .left) in
-    (p .0, latitude-place _ _ (p .1), reduced-reach _ _ known .0, rw (reduced-is start) (p .3))
+    (p .0, reduced-reach _ _ known .0, rw (reduced-is start) (p .2))
 
 seconds-past-requires : tie.Need-seconds-past-requires
 unfolding rowOf
 seconds-past-requires c κs =
     let start = c .before .before .before .before in
     let p = start .pre in
-    (p .0, p .1, kept _ _ (c .before .before .reduced-known .ensures) (c .before .if1 .left), c .row-with-next .ensures)
+    (p .0, kept _ _ (c .before .before .reduced-known .ensures) (c .before .if1 .left), c .row-with-next .ensures)
 
 from-distance-requires : tie.Need-from-distance-requires
 unfolding rowOf
@@ -57,7 +56,7 @@ from-distance-requires c κs =
     let start = c .before .before .before .before .before .before in
     let p = start .pre in
     let known = kept _ _ (c .before .before .before .before .reduced-known .ensures) (c .before .before .before .if1 .left) in
-    (p .0, p .1, rw (xp-is start) (p .2), next-there _ (p .0) _ known _ (c .before .before .row-with-next .ensures), c .before .seconds-past .ensures .1)
+    (p .0, rw (xp-is start) (p .1), next-there _ (p .0 .passes) _ known _ (c .before .before .row-with-next .ensures), c .before .seconds-past .ensures .1)
 
 pub from-reduced-spec : {M : Type 1} → statement M
 from-reduced-spec =

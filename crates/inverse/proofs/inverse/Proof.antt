@@ -6,7 +6,7 @@ use mir.Syntax.{w32, w64}
 use mir.Val.{toZ, ofZ}
 use Rattle.words.proofs.Refusals.{stop, go, kept}
 use Rattle.extent.specs.Extent.{xPrime, eastingKnown, northingKnown}
-use Rattle.extent.proofs.Reach.{easting-reach}
+use Rattle.extent.proofs.Reach.{easting-within}
 use Rattle.inverse.specs.Inverse.{reducedNorthing, reducedHalf, inverseOf}
 use Rattle.figures.proofs.Bits.{bits-is, bits-below}
 use borrow.Author.Needs.{needs}
@@ -74,14 +74,14 @@ reduced-northing-requires : tie.Need-reduced-northing-requires
 reduced-northing-requires c κs =
     let p = c .before .before .before .before .before .before .before .pre in
     let easting = kept _ _ (c .before .before .before .before .easting-known .ensures) (c .before .before .before .if1 .left) in
-    (p .0, p .1, rw (c .size .ensures) (easting-reach _ _ easting), kept _ _ (c .before .before .northing-known .ensures) (c .before .if2 .left))
+    (p, rw (c .size .ensures) (easting-within _ _ easting), kept _ _ (c .before .before .northing-known .ensures) (c .before .if2 .left))
 
 from-reduced-requires : tie.Need-from-reduced-requires
 from-reduced-requires c κs =
     let found = c .before in
     let p = found .before .before .before .before .before .before .before .before .pre in
     let easting = kept _ _ (found .before .before .before .before .before .easting-known .ensures) (found .before .before .before .before .if1 .left) in
-    (p .0, p .1, easting, rw (reduced-bits found) (found .reduced-northing .ensures .1))
+    (p, easting, rw (reduced-bits found) (found .reduced-northing .ensures .1))
 
 pub inverse-spec : {M : Type 1} → statement M
 inverse-spec =

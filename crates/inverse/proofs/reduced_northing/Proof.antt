@@ -10,7 +10,7 @@ use Rattle.steps.specs.Steps.{reduction}
 use Rattle.figures.proofs.Sizes.{size-nonNeg}
 use Rattle.figures.proofs.Holds.{Holds, difference, difference-fits, unsigned-fits, size-below}
 use Rattle.tables.specs.Figures.{pAt, dAt}
-use Rattle.extent.proofs.Reach.{northing-reach, easting-span}
+use Rattle.extent.proofs.Reach.{northing-reach, northing-within, easting-span}
 use Rattle.extent.proofs.Points.{wide, wide-fits}
 use Rattle.inverse.specs.Inverse.{reducedNorthing}
 use Rattle.inverse.proofs.Longitudes.{reduction-worked, reduced-marked, reduction-small}
@@ -31,7 +31,7 @@ reduction-is c =
     let read = c .before .before in
     let bits : toZ w64 (ofZ w64 (c .reduction .result .value)) ≡ c .reduction .result .value = search needs in
     let worked = reduction-worked _ _ _ (wide (start .fits .y) .is) (read .before .p-at .ensures .0) (d-is read) (read .d-at .ensures .0) in
-    record { is = bits ∙ c .reduction .ensures .0 ∙ worked; size = reduction-small _ (p .0) _ _ (p .2) (northing-reach _ _ (p .3) .high) }
+    record { is = bits ∙ c .reduction .ensures .0 ∙ worked; size = reduction-small _ (p .0 .passes) _ _ (p .1) (northing-within _ _ (p .2)) }
 
 returns : tie.Need-returns
 unfolding reducedNorthing
@@ -47,12 +47,12 @@ cast-north : tie.Need-cast-north
 cast-north c = wide-fits (c .before .fits .y)
 
 cast-p-at : tie.Need-cast-p-at
-cast-p-at c = unsigned-fits (wide (c .before .fits .y)) (size-nonNeg (northing-reach _ _ (c .before .pre .3))) tt
+cast-p-at c = unsigned-fits (wide (c .before .fits .y)) (size-nonNeg (northing-reach _ _ (c .before .pre .2))) tt
 
 p-at-requires : tie.Need-p-at-requires
 p-at-requires c κs =
     let p = c .before .pre in
-    (p .0, p .1, rw (wide (c .before .fits .y) .is) (northing-reach _ _ (p .3) .high))
+    (p .0, rw (wide (c .before .fits .y) .is) (northing-within _ _ (p .2)))
 
 d-at-requires : tie.Need-d-at-requires
 d-at-requires c κs = search needs
@@ -61,7 +61,7 @@ reduction-requires : tie.Need-reduction-requires
 reduction-requires c κs =
     let read = c .before in
     let p = read .before .before .before .pre in
-    (read .before .p-at .ensures .1, le-trans (p .2) (le-trans (easting-span _ (p .0)) (lit≤ tt)), rw (d-is read) (read .d-at .ensures .1))
+    (read .before .p-at .ensures .1, le-trans (p .1 .most) (le-trans (easting-span _ (p .0 .passes)) (lit≤ tt)), rw (d-is read) (read .d-at .ensures .1))
 
 sub-t10 : tie.Need-sub-t10
 sub-t10 c = difference-fits (wide (c .before .before .before .before .before .before .before .fits .y)) (reduction-is (c .before .before)) tt

@@ -4,8 +4,8 @@ use native.Mathlib.Omega.{arith}
 use lib.IntN.{pos}
 use denote.Ref.{now}
 use Rattle.tables.proofs.Answers.{read-signed, read-signed-is}
-use Rattle.tables.proofs.Past.{distanceAt, past-reach}
-use Rattle.extent.proofs.Reach.{size-reach}
+use Rattle.tables.proofs.Past.{distanceAt, past-within}
+use Rattle.extent.proofs.Reach.{size-within}
 use Rattle.inverse.specs.Inverse.{sizeOf}
 use Rattle.inverse.proofs.Longitudes.{x-small, size-worked, size-marked, l-asked, l-between}
 use borrow.Author.Needs.{needs}
@@ -26,7 +26,7 @@ l-is : (c : tie.After-size-of-l) → let args = c .before .before .before .befor
 l-is c =
     let p = c .before .before .before .before .before .before .before .pre in
     let read = c .before .before .before in
-    c .size-of-l .ensures .0 ∙ size-worked _ _ _ (p .5) (read .before .before .h-past .ensures .0) (a-is read) (read .before .a-past .ensures .0) (b-is read) (read .b-at .ensures .0)
+    c .size-of-l .ensures .0 ∙ size-worked _ _ _ (p .4) (read .before .before .h-past .ensures .0) (a-is read) (read .before .a-past .ensures .0) (b-is read) (read .b-at .ensures .0)
 
 returns : tie.Need-returns
 returns c =
@@ -36,8 +36,8 @@ returns c =
     let h = read .before .before .h-past .ensures in
     let a = read .before .a-past .ensures in
     let b = read .b-at .ensures in (
-      read-signed-is (l-is worked) (l-between _ (p .0) _ _ (p .2) (past-reach _ _ _ _ (p .3) (p .4)) (rw (p .5) at (p .6)) (l-is worked)) tt .0,
-      size-marked _ _ _ (p .5) (h .0) (a-is read) (a .0) (b-is read) (b .0) (h .3) (a .2) (p .7) (b .2) (worked .size-of-l .ensures .1),
+      read-signed-is (l-is worked) (l-between _ (p .0 .passes) _ _ (p .1) (past-within _ (p .0 .passes) _ _ (p .2) (p .3)) (rw (p .4) at (p .5)) (l-is worked)) tt .0,
+      size-marked _ _ _ (p .4) (h .0) (a-is read) (a .0) (b-is read) (b .0) (h .3) (a .2) (p .6) (b .2) (worked .size-of-l .ensures .1),
     )
 
 h-past-requires : tie.Need-h-past-requires
@@ -49,7 +49,7 @@ a-past-requires c κs = search needs
 b-at-requires : tie.Need-b-at-requires
 b-at-requires c κs =
     let p = c .before .before .before .pre in
-    (p .0, p .1, size-reach _ _ (p .6) .high)
+    (p .0, size-within _ _ (p .5))
 
 size-of-l-requires : tie.Need-size-of-l-requires
 size-of-l-requires c κs =
@@ -58,19 +58,19 @@ size-of-l-requires c κs =
     let h = read .before .before .h-past .ensures in
     let a = read .before .a-past .ensures in
     let b = read .b-at .ensures in (
-      x-small _ (p .0) _ _ (p .2) (past-reach _ _ _ _ (p .3) (p .4)),
+      x-small _ (p .0 .passes) _ _ (p .1) (past-within _ (p .0 .passes) _ _ (p .2) (p .3)),
       rw (a-is read) (a .1),
       rw (b-is read) (b .1),
       omega (arith, h .1),
       h .2,
-      l-asked _ (p .0) _ _ (p .2) (past-reach _ _ _ _ (p .3) (p .4)) (rw (p .5) at (p .6)) (p .5) (a-is read) (a .0) (b-is read) (b .0),
+      l-asked _ (p .0 .passes) _ _ (p .1) (past-within _ (p .0 .passes) _ _ (p .2) (p .3)) (rw (p .4) at (p .5)) (p .4) (a-is read) (a .0) (b-is read) (b .0),
     )
 
 cast-t10 : tie.Need-cast-t10
 cast-t10 c =
     let worked = c .before in
     let p = worked .before .before .before .before .before .before .before .pre in
-    read-signed (l-is worked) (l-between _ (p .0) _ _ (p .2) (past-reach _ _ _ _ (p .3) (p .4)) (rw (p .5) at (p .6)) (l-is worked)) tt
+    read-signed (l-is worked) (l-between _ (p .0 .passes) _ _ (p .1) (past-within _ (p .0 .passes) _ _ (p .2) (p .3)) (rw (p .4) at (p .5)) (l-is worked)) tt
 
 pub size-of-spec : {M : Type 1} → statement M
 size-of-spec =

@@ -10,7 +10,7 @@ use mir.Facts.{toZ-ofZ}
 use Rattle.figures.proofs.Sizes.{Size}
 use Rattle.rules.specs.Limits.{sameAs}
 use Rattle.judge.specs.Judge.{fromFirstMinute}
-use Rattle.judge.proofs.Place.{none-below, none-above, place-size, by-minute, cast-place, eight-place, own-word}
+use Rattle.judge.proofs.Place.{none-below, none-above, place-size, by-minute, cast-place, place-word, own-word}
 use borrow.Author.Needs.{sfits-of}
 use borrow.Author.Needs.{needs}
 use Rattle.judge.proofs.has_row.Statement.{statement}
@@ -55,7 +55,7 @@ cast-word : tie.Need-cast-word
 cast-word c = cast-place _ _ (inside c) (c .before .before .before .before .pre .0) (c .before .before .before .before .pre .1) (search needs)
 
 mul-word : tie.Need-mul-word
-mul-word c = eight-place _ _ (inside c) (c .before .before .before .before .pre .0) (c .before .before .before .before .pre .1) (search needs)
+mul-word c = place-word _ _ (inside c) (c .before .before .before .before .pre .0) (c .before .before .before .before .pre .1) (search needs)
 
 word-requires : tie.Need-word-requires
 word-requires c κs = own-word _ _ (inside c) (c .before .before .before .before .pre .0) (c .before .before .before .before .pre .1) (search needs)

@@ -22,7 +22,7 @@ returns c =
     let y = toZ-ofZ {w = w32} {z = start .args .l .second} (sfits-of (two .struct-told2 .given .1 .1 .0 .1)) in
     let u = toZ-ofZ {w = w32} {z = call .forward .result .x} (sfits-of (told .struct-told3 .given .1 .0 .1)) in
     let v = toZ-ofZ {w = w32} {z = call .forward .result .y} (sfits-of (told .struct-told3 .given .1 .1 .0 .1)) in
-    rw (u, v) (forward-values (now (start .args .s)) (start .args .l) (start .pre .0) _ _ x y (call .forward .result) (test .if1 .taken) (call .forward .ensures))
+    rw (u, v) (forward-values (now (start .args .s)) (start .args .l) (start .pre .passes) _ _ x y (call .forward .result) (test .if1 .taken) (call .forward .ensures))
 
 inverse-requires : tie.Need-inverse-requires
 inverse-requires c κs = search needs
@@ -38,7 +38,7 @@ returns-2 c =
     let y = toZ-ofZ {w = w32} {z = start .args .l .second} (sfits-of (two .struct-told5 .given .1 .1 .0 .1)) in
     let u = toZ-ofZ {w = w32} {z = call .inverse .result .latitude} (sfits-of (told .struct-told6 .given .1 .0 .1)) in
     let v = toZ-ofZ {w = w32} {z = call .inverse .result .longitude} (sfits-of (told .struct-told6 .given .1 .1 .0 .1)) in
-    rw (u, v) (inverse-values (now (start .args .s)) (start .args .l) (start .pre .0) _ _ x y (call .inverse .result) (test .before .if1 .left) (test .if2 .taken) (call .inverse .ensures))
+    rw (u, v) (inverse-values (now (start .args .s)) (start .args .l) (start .pre .passes) _ _ x y (call .inverse .result) (test .before .if1 .left) (test .if2 .taken) (call .inverse .ensures))
 
 convergence-requires : tie.Need-convergence-requires
 convergence-requires c κs = search needs
@@ -54,7 +54,7 @@ returns-3 c =
     let y = toZ-ofZ {w = w32} {z = start .args .l .second} (sfits-of (two .struct-told8 .given .1 .1 .0 .1)) in
     let u = toZ-ofZ {w = w32} {z = call .convergence .result .convergence} (sfits-of (told .struct-told9 .given .1 .0 .1)) in
     let v = toZ-ofZ {w = w32} {z = call .convergence .result .scale} (sfits-of (told .struct-told9 .given .1 .1 .0 .1)) in
-    rw (u, v) (grid-values (now (start .args .s)) (start .args .l) (start .pre .0) _ _ x y (call .convergence .result) (test .before .before .if1 .left) (test .before .if2 .left) (test .if3 .taken) (call .convergence .ensures))
+    rw (u, v) (grid-values (now (start .args .s)) (start .args .l) (start .pre .passes) _ _ x y (call .convergence .result) (test .before .before .if1 .left) (test .before .if2 .left) (test .if3 .taken) (call .convergence .ensures))
 
 refusal-requires : tie.Need-refusal-requires
 refusal-requires c κs = search needs

@@ -49,7 +49,7 @@ answer-input-requires c κs =
     let known = c .before .before in
     let first = known .before .before .before .before .before .before .before .before .before .before .before .before .before .before in
     let put = known .before .before .before .before .before .before .before .before .put-verdict in
-    (passes (known .before), known .places-of .ensures, first .pre .0, first .pre .1, first .pre .2, omega (arith, first .pre .3, put .kept .0))
+    (record { passes = passes (known .before); places = known .places-of .ensures }, first .pre .0, first .pre .1, first .pre .2, omega (arith, first .pre .3, put .kept .0))
 
 same-length-3 : tie.Need-same-length-3
 same-length-3 c = search needs

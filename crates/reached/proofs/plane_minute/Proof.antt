@@ -2,18 +2,15 @@
 use mathlib.Core.Path.{_≡_, ap, _∙_}
 use Prim.Native.Nat.{_+_, _≤_}
 use native.Mathlib.Omega.{arith}
-use lib.Dec.{lit≤}
 use lib.IntN.{natAbs}
 use denote.Ref.{now}
 use mir.Syntax.{w32, w64}
 use mir.Val.{toZ, ofZ}
 use Rattle.words.proofs.Refusals.{stop, go, kept}
 use Rattle.extent.specs.Extent.{xPrime, eastingKnown, northingKnown}
-use Rattle.extent.proofs.Reach.{easting-reach}
+use Rattle.extent.proofs.Reach.{easting-within, latitude-count}
 use Rattle.inverse.specs.Inverse.{reducedNorthing}
 use Rattle.figures.proofs.Bits.{bits-is, bits-below}
-use Rattle.extent.proofs.Counts.{count-small}
-use Rattle.entries.specs.Layout.{latitude}
 use Rattle.reached.specs.Reached.{planeMinute}
 use borrow.Author.Needs.{needs}
 use Rattle.reached.proofs.plane_minute.Statement.{statement}
@@ -47,7 +44,7 @@ reduced-is c =
 sum-most : (c : tie.After-row-below) → c .before .first-minute .result + c .row-below .result ≤ 6_600
 sum-most c =
     let p = c .before .before .before .before .before .before .before .before .before .before .before .pre in
-    omega (arith, c .before .first-minute .ensures .1, c .row-below .ensures .1, count-small _ latitude (p .0) (lit≤ tt) (lit≤ tt))
+    omega (arith, c .before .first-minute .ensures .1, c .row-below .ensures .1, latitude-count _ (p .passes))
 
 returns : tie.Need-returns
 unfolding planeMinute
@@ -83,7 +80,7 @@ reduced-northing-requires : tie.Need-reduced-northing-requires
 reduced-northing-requires c κs =
     let p = c .before .before .before .before .before .before .before .pre in
     let easting = kept _ _ (c .before .before .before .before .easting-known .ensures) (c .before .before .before .if1 .left) in
-    (p .0, p .1, rw (c .size .ensures) (easting-reach _ _ easting), kept _ _ (c .before .before .northing-known .ensures) (c .before .if2 .left))
+    (p, rw (c .size .ensures) (easting-within _ _ easting), kept _ _ (c .before .before .northing-known .ensures) (c .before .if2 .left))
 
 first-minute-requires : tie.Need-first-minute-requires
 first-minute-requires c κs = search needs

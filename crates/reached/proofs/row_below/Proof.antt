@@ -3,7 +3,6 @@ use mathlib.Core.Path.{_≡_, _∙_}
 use mir.Syntax.{w64}
 use mir.Val.{toZ, ofZ}
 use Rattle.figures.proofs.Bits.{bits-is}
-use Rattle.tables.proofs.ByName.{latitude-place}
 use Rattle.tables.proofs.Ranges.{latitude-some}
 use Rattle.inverse.specs.Inverse.{rowOf}
 use Rattle.reached.proofs.TwoMinutes.{none-below-it, some-below-it}
@@ -15,20 +14,20 @@ z-is : (c : tie.Start) → toZ w64 (ofZ w64 (c .args .z)) ≡ c .args .z
 z-is c = search needs
 
 y0-of-requires : tie.Need-y0-of-requires
-y0-of-requires c κs = let p = c .before .pre in (p .0, p .1, latitude-some _ (p .0))
+y0-of-requires c κs = let p = c .before .pre in (p .0, latitude-some _ (p .0 .passes))
 
 returns : tie.Need-returns
 returns c =
     let read = c .before .y0-of in
     let start = c .before .before .before in
-    (none-below-it _ (start .pre .0) _ _ _ (z-is start) (bits-is (read .ok) ∙ read .ensures .0) (c .if1 .taken), latitude-some _ (start .pre .0))
+    (none-below-it _ (start .pre .0 .passes) _ _ _ (z-is start) (bits-is (read .ok) ∙ read .ensures .0) (c .if1 .taken), latitude-some _ (start .pre .0 .passes))
 
 row-of-requires : tie.Need-row-of-requires
 row-of-requires c κs =
     let read = c .before .y0-of in
     let start = c .before .before .before in
     let p = start .pre in
-    (p .0, latitude-place _ _ (p .1), some-below-it _ (p .0) _ _ _ (z-is start) (bits-is (read .ok) ∙ read .ensures .0) (c .if1 .left), rw (z-is start) (p .2))
+    (p .0, some-below-it _ (p .0 .passes) _ _ _ (z-is start) (bits-is (read .ok) ∙ read .ensures .0) (c .if1 .left), rw (z-is start) (p .1))
 
 returns-2 : tie.Need-returns-2
 unfolding rowOf

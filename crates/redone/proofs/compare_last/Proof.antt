@@ -22,7 +22,7 @@ returns c =
     let rest = c .before .before .before .before .before .before .before .compare-rest .ensures in
     let first = c .before .before .before .before .before .before .before .before .before .before .before .before .before in
     let a = first .args in
-    (refl, omega (arith, counts .0, rest .0, first .pre .5), rest .1, closed (now (a .old)) (now (a .new)) (a .a) _ (now (a .out)) _ _ _ _ _ (rest .1) (rest .2) (counts .1))
+    (refl, omega (arith, counts .0, rest .0, first .pre .3), rest .1, closed (now (a .old)) (now (a .new)) (a .a) _ (now (a .out)) _ _ _ _ _ (rest .1) (rest .2) (counts .1))
 
 pub compare-last-spec : {M : Type 1} → statement M
 compare-last-spec =

@@ -1,5 +1,5 @@
 -- `redone::compare_lines` meets its contract: each turn compares one line more. Assumes nothing.
-use mathlib.Core.Path.{_≡_, refl, _∙_}
+use mathlib.Core.Path.{_≡_, refl}
 use Prim.Native.Nat.{_+_, _-_, _≤_}
 use native.Mathlib.Omega.{arith}
 use denote.Ref.{now}
@@ -26,7 +26,7 @@ loop-holds : tie.Need-loop-holds Inv-loop μ-loop
 loop-holds c =
     let first = c .before .before .before .before .before .before in
     let a = first .args in
-    (start (comparing (now (a .old)) (now (a .new))) changeRoom (now (a .buffer)) _ _ _ (now (a .out)) (first .pre .4), c .line-end .ensures .0, c .line-end .ensures .1, refl)
+    (start (comparing (now (a .old)) (now (a .new))) changeRoom (now (a .buffer)) _ _ _ (now (a .out)) (first .pre .2), c .line-end .ensures .0, c .line-end .ensures .1, refl)
 
 sub-compare-one : tie.Need-sub-compare-one Inv-loop μ-loop
 sub-compare-one c = search needs
@@ -44,7 +44,7 @@ add-i : tie.Need-add-i Inv-loop μ-loop
 add-i c =
     let turn = c .before .before .before .before .before .before in
     let first = turn .before .before .before .before .before .before .before .before in
-    record { fits = omega (arith, turn .loop-test .taken, first .pre .5) }
+    record { fits = omega (arith, turn .loop-test .taken, first .pre .3) }
 
 line-end-requires-2 : tie.Need-line-end-requires-2 Inv-loop μ-loop
 line-end-requires-2 c κs = search needs
@@ -58,7 +58,7 @@ loop-again c =
     let turn = c .before .before .before .before .before .before .before in
     let l = turn .before .loop in
     let first = turn .before .before .before .before .before .before .before .before in
-    let more = one-more (l .inv .0) (first .pre .5) _ (l .inv .1) (turn .loop-test .taken) (put .ensures .2) (put .ensures .0) in
+    let more = one-more (l .inv .0) (first .pre .3) _ (l .inv .1) (turn .loop-test .taken) (put .ensures .2) (put .ensures .0) in
     (rw (put .ensures .1) more, c .line-end2 .ensures .0, c .line-end2 .ensures .1, search needs)
 
 same-length : tie.Need-same-length Inv-loop μ-loop
@@ -68,8 +68,8 @@ returns : tie.Need-returns Inv-loop μ-loop
 returns c =
     let l = c .before .loop in
     let first = c .before .before .before .before .before .before .before .before in
-    let d = finished (l .inv .0) (first .pre .5) _ (l .inv .1) (c .loop-test .left) (l .inv .2) in
-    ((l .inv .0 .inside, omega (arith, l .inv .0 .far, l .inv .0 .inside, first .pre .6), d .rest), (d .end-state, d .all))
+    let d = finished (l .inv .0) (first .pre .3) _ (l .inv .1) (c .loop-test .left) (l .inv .2) in
+    ((l .inv .0 .inside, omega (arith, l .inv .0 .far, l .inv .0 .inside, first .pre .4), d .rest), (d .end-state, d .all))
 
 pub compare-lines-spec : {M : Type 1} → statement M
 compare-lines-spec =

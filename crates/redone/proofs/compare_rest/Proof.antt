@@ -34,7 +34,7 @@ returns-2 c =
     let left = c .before .before .before .before .before in
     let first = left .before .before .before .before .before in
     let a = first .args in
-    let d = one-left (now (a .old)) (now (a .new)) (a .a) _ (now (a .buffer)) _ _ _ _ (first .pre .4) (left .if1 .left) (one .1) (one .2) in
+    let d = one-left (now (a .old)) (now (a .new)) (a .a) _ (now (a .buffer)) _ _ _ _ (first .pre .2) (left .if1 .left) (one .1) (one .2) in
     (search needs, d .0, d .1)
 
 pub compare-rest-spec : {M : Type 1} → statement M

@@ -4,12 +4,12 @@ use lib.IntN.{pos, negℤ}
 use mir.Syntax.{w32}
 use mir.Val.{toZ, ofZ}
 use Rattle.rules.specs.Limits.{rises}
-use Rattle.rules.specs.Latitude.{withinBounds}
+use Rattle.rules.specs.Latitude.{leastRise, mostRise, withinBounds}
 use borrow.Author.Needs.{needs}
 use Rattle.rules.proofs.within_bounds.Statement.{statement}
 use Rattle.rules.proofs.within_bounds.Tie as tie
 
-y0-tested : (c : tie.After-rises) → c .rises .result ≡ rises (c .before .before .before .args .f .y0) (c .before .before .before .args .next .y0) (pos 600_000) (pos 615_000)
+y0-tested : (c : tie.After-rises) → c .rises .result ≡ rises (c .before .before .before .args .f .y0) (c .before .before .before .args .next .y0) (pos leastRise) (pos mostRise)
 y0-tested c =
     let first : toZ w32 (ofZ w32 (c .before .before .before .args .f .y0)) ≡ c .before .before .before .args .f .y0 = search needs in
     let second : toZ w32 (ofZ w32 (c .before .before .before .args .next .y0)) ≡ c .before .before .before .args .next .y0 = search needs in

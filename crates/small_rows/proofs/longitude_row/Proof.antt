@@ -7,6 +7,7 @@ use mir.Syntax.{w32}
 use mir.Val.{toZ, ofZ}
 use Rattle.words.specs.Words.{wordAt}
 use Rattle.words.proofs.Refusals.{stop, go, below, beyond}
+use Rattle.entries.specs.Layout.{longitude, widthOf}
 use Rattle.rules.specs.Limits.{inRange, rises}
 use Rattle.small_rows.specs.SmallRows.{zeroFirst, longitudeFault}
 use borrow.Author.Needs.{needs}
@@ -14,29 +15,29 @@ use Rattle.small_rows.proofs.longitude_row.Statement.{statement}
 use Rattle.small_rows.proofs.longitude_row.Tie as tie
 
 -- ---- the figures as they are read
-b-read : (c : tie.After-word) → toZ w32 (ofZ w32 (c .word .result)) ≡ wordAt (now (c .before .before .args .b)) (2 * c .before .before .args .i)
+b-read : (c : tie.After-word) → toZ w32 (ofZ w32 (c .word .result)) ≡ wordAt (now (c .before .before .args .b)) (widthOf longitude * c .before .before .args .i)
 b-read c = let read : toZ w32 (ofZ w32 (c .word .result)) ≡ c .word .result = search needs in read ∙ c .word .ensures
 
-c-read : (c : tie.After-word2) → toZ w32 (ofZ w32 (c .word2 .result)) ≡ wordAt (now (c .before .before .before .args .b)) (2 * c .before .before .before .args .i + 1)
+c-read : (c : tie.After-word2) → toZ w32 (ofZ w32 (c .word2 .result)) ≡ wordAt (now (c .before .before .before .args .b)) (widthOf longitude * c .before .before .before .args .i + 1)
 c-read c = let read : toZ w32 (ofZ w32 (c .word2 .result)) ≡ c .word2 .result = search needs in read ∙ c .word2 .ensures
 
-next-read : (c : tie.After-word3) → toZ w32 (ofZ w32 (c .word3 .result)) ≡ wordAt (now (c .before .before .before .before .before .before .before .before .before .before .before .before .before .args .b)) (2 * c .before .before .before .before .before .before .before .before .before .before .before .before .before .args .i + 2)
+next-read : (c : tie.After-word3) → toZ w32 (ofZ w32 (c .word3 .result)) ≡ wordAt (now (c .before .before .before .before .before .before .before .before .before .before .before .before .before .args .b)) (widthOf longitude * c .before .before .before .before .before .before .before .before .before .before .before .before .before .args .i + widthOf longitude)
 next-read c = let read : toZ w32 (ofZ w32 (c .word3 .result)) ≡ c .word3 .result = search needs in read ∙ c .word3 .ensures
 
 -- ---- the tests of them
-b-ranged : (c : tie.After-in-range) → c .in-range .result ≡ inRange (negℤ (pos 20_000)) (wordAt (now (c .before .before .before .before .args .b)) (2 * c .before .before .before .before .args .i)) (pos 20_000)
+b-ranged : (c : tie.After-in-range) → c .in-range .result ≡ inRange (negℤ (pos 20_000)) (wordAt (now (c .before .before .before .before .args .b)) (widthOf longitude * c .before .before .before .before .args .i)) (pos 20_000)
 b-ranged c = c .in-range .ensures ∙ rw (b-read (c .before .before))
 
-c-ranged : (c : tie.After-in-range2) → c .in-range2 .result ≡ inRange (negℤ (pos 2_000)) (wordAt (now (c .before .before .before .before .before .before .args .b)) (2 * c .before .before .before .before .before .before .args .i + 1)) (pos 2_000)
+c-ranged : (c : tie.After-in-range2) → c .in-range2 .result ≡ inRange (negℤ (pos 2_000)) (wordAt (now (c .before .before .before .before .before .before .args .b)) (widthOf longitude * c .before .before .before .before .before .before .args .i + 1)) (pos 2_000)
 c-ranged c = c .in-range2 .ensures ∙ rw (c-read (c .before .before .before))
 
-b-first : (c : tie.After-zero-first) → c .zero-first .result ≡ zeroFirst (wordAt (now (c .before .before .before .before .before .before .before .before .args .b)) (2 * c .before .before .before .before .before .before .before .before .args .i)) (c .before .before .before .before .before .before .before .before .args .i)
+b-first : (c : tie.After-zero-first) → c .zero-first .result ≡ zeroFirst (wordAt (now (c .before .before .before .before .before .before .before .before .args .b)) (widthOf longitude * c .before .before .before .before .before .before .before .before .args .i)) (c .before .before .before .before .before .before .before .before .args .i)
 b-first c = c .zero-first .ensures ∙ rw (b-read (c .before .before .before .before .before .before))
 
-c-first : (c : tie.After-zero-first2) → c .zero-first2 .result ≡ zeroFirst (wordAt (now (c .before .before .before .before .before .before .before .before .before .before .args .b)) (2 * c .before .before .before .before .before .before .before .before .before .before .args .i + 1)) (c .before .before .before .before .before .before .before .before .before .before .args .i)
+c-first : (c : tie.After-zero-first2) → c .zero-first2 .result ≡ zeroFirst (wordAt (now (c .before .before .before .before .before .before .before .before .before .before .args .b)) (widthOf longitude * c .before .before .before .before .before .before .before .before .before .before .args .i + 1)) (c .before .before .before .before .before .before .before .before .before .before .args .i)
 c-first c = c .zero-first2 .ensures ∙ rw (c-read (c .before .before .before .before .before .before .before))
 
-b-next : (c : tie.After-rises) → c .rises .result ≡ rises (wordAt (now (c .before .before .before .before .before .before .before .before .before .before .before .before .before .before .args .b)) (2 * c .before .before .before .before .before .before .before .before .before .before .before .before .before .before .args .i)) (wordAt (now (c .before .before .before .before .before .before .before .before .before .before .before .before .before .before .args .b)) (2 * c .before .before .before .before .before .before .before .before .before .before .before .before .before .before .args .i + 2)) (negℤ (pos 1_000)) (pos 1_000)
+b-next : (c : tie.After-rises) → c .rises .result ≡ rises (wordAt (now (c .before .before .before .before .before .before .before .before .before .before .before .before .before .before .args .b)) (widthOf longitude * c .before .before .before .before .before .before .before .before .before .before .before .before .before .before .args .i)) (wordAt (now (c .before .before .before .before .before .before .before .before .before .before .before .before .before .before .args .b)) (widthOf longitude * c .before .before .before .before .before .before .before .before .before .before .before .before .before .before .args .i + widthOf longitude)) (negℤ (pos 1_000)) (pos 1_000)
 b-next c = c .rises .ensures ∙ rw (b-read (c .before .before .before .before .before .before .before .before .before .before .before .before), next-read (c .before))
 
 -- ---- the ladder

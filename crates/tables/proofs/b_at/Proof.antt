@@ -1,7 +1,7 @@
 -- `tables::b_at` meets its contract. Assumes nothing.
 use Rattle.tables.specs.Figures.{bAt, bHalf}
 use Rattle.tables.proofs.Ranges.{b-between}
-use Rattle.tables.proofs.ByName.{longitude-place}
+use Rattle.bodies.proofs.Known.{longitude-placed}
 use borrow.Author.Needs.{needs}
 use Rattle.tables.proofs.b_at.Statement.{statement}
 use Rattle.tables.proofs.b_at.Tie as tie
@@ -11,10 +11,10 @@ unfolding bAt bHalf
 returns c =
     let p = c .before .before .pre in
     let e = c .figure-at .ensures .0 in
-    (e, rw e (b-between _ (p .0) _ (p .2)), c .figure-at .ensures .1)
+    (e, rw e (b-between _ (p .0 .passes) _ (p .1)), c .figure-at .ensures .1)
 
 figure-at-requires : tie.Need-figure-at-requires
-figure-at-requires c κs = search (longitude-place, needs)
+figure-at-requires c κs = search (longitude-placed, needs)
 
 pub b-at-spec : {M : Type 1} → statement M
 b-at-spec = tie.close (tie.spec figure-at-requires returns)

@@ -1,7 +1,7 @@
 -- `tables::c_at` meets its contract. Assumes nothing.
 use Rattle.tables.specs.Figures.{cAt, cHalf}
 use Rattle.tables.proofs.Ranges.{c-between}
-use Rattle.tables.proofs.ByName.{longitude-place}
+use Rattle.bodies.proofs.Known.{longitude-placed}
 use borrow.Author.Needs.{needs}
 use Rattle.tables.proofs.c_at.Statement.{statement}
 use Rattle.tables.proofs.c_at.Tie as tie
@@ -11,10 +11,10 @@ unfolding cAt cHalf
 returns c =
     let p = c .before .before .pre in
     let e = c .figure-at .ensures .0 in
-    (e, rw e (c-between _ (p .0) _ (p .2)), c .figure-at .ensures .1)
+    (e, rw e (c-between _ (p .0 .passes) _ (p .1)), c .figure-at .ensures .1)
 
 figure-at-requires : tie.Need-figure-at-requires
-figure-at-requires c κs = search (longitude-place, needs)
+figure-at-requires c κs = search (longitude-placed, needs)
 
 pub c-at-spec : {M : Type 1} → statement M
 c-at-spec = tie.close (tie.spec figure-at-requires returns)

@@ -1,7 +1,7 @@
 -- `tables::d_at` meets its contract. Assumes nothing.
 use Rattle.tables.specs.Figures.{dAt, dHalf}
 use Rattle.tables.proofs.Ranges.{d-between}
-use Rattle.tables.proofs.ByName.{easting-place}
+use Rattle.bodies.proofs.Known.{easting-placed}
 use borrow.Author.Needs.{needs}
 use Rattle.tables.proofs.d_at.Statement.{statement}
 use Rattle.tables.proofs.d_at.Tie as tie
@@ -11,10 +11,10 @@ unfolding dAt dHalf
 returns c =
     let p = c .before .before .pre in
     let e = c .figure-at .ensures .0 in
-    (e, rw e (d-between _ (p .0) _ (p .2)), c .figure-at .ensures .1)
+    (e, rw e (d-between _ (p .0 .passes) _ (p .1)), c .figure-at .ensures .1)
 
 figure-at-requires : tie.Need-figure-at-requires
-figure-at-requires c κs = search (easting-place, needs)
+figure-at-requires c κs = search (easting-placed, needs)
 
 pub d-at-spec : {M : Type 1} → statement M
 d-at-spec = tie.close (tie.spec figure-at-requires returns)

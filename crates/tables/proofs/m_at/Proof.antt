@@ -1,7 +1,7 @@
 -- `tables::m_at` meets its contract. Assumes nothing.
 use Rattle.tables.specs.Figures.{mAt, mHalf}
 use Rattle.tables.proofs.Ranges.{m-between, m-rows}
-use Rattle.tables.proofs.ByName.{northing-place}
+use Rattle.bodies.proofs.Known.{northing-placed}
 use Rattle.tables.proofs.Answers.{read-is, read-high}
 use borrow.Author.Needs.{needs}
 use Rattle.tables.proofs.m_at.Statement.{statement}
@@ -11,12 +11,12 @@ returns : tie.Need-returns
 unfolding mAt mHalf
 returns c =
     let p = c .before .before .pre in
-    let h = m-between _ (p .0) _ (p .2) in
+    let h = m-between _ (p .0 .passes) _ (p .1) in
     let e = c .size-at .ensures .0 in
     (read-is e h, read-high e h, c .size-at .ensures .1)
 
 size-at-requires : tie.Need-size-at-requires
-size-at-requires c κs = search (northing-place, m-rows, needs)
+size-at-requires c κs = search (northing-placed, m-rows, needs)
 
 pub m-at-spec : {M : Type 1} → statement M
 m-at-spec = tie.close (tie.spec size-at-requires returns)

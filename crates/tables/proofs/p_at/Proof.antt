@@ -1,7 +1,7 @@
 -- `tables::p_at` meets its contract. Assumes nothing.
 use Rattle.tables.specs.Figures.{pAt, pHalf}
 use Rattle.tables.proofs.Ranges.{p-between, p-rows}
-use Rattle.tables.proofs.ByName.{northing-place}
+use Rattle.bodies.proofs.Known.{northing-placed}
 use Rattle.tables.proofs.Answers.{read-is, read-high}
 use borrow.Author.Needs.{needs}
 use Rattle.tables.proofs.p_at.Statement.{statement}
@@ -11,12 +11,12 @@ returns : tie.Need-returns
 unfolding pAt pHalf
 returns c =
     let p = c .before .before .pre in
-    let h = p-between _ (p .0) _ (p .2) in
+    let h = p-between _ (p .0 .passes) _ (p .1) in
     let e = c .size-at .ensures .0 in
     (read-is e h, read-high e h, c .size-at .ensures .1)
 
 size-at-requires : tie.Need-size-at-requires
-size-at-requires c κs = search (northing-place, p-rows, needs)
+size-at-requires c κs = search (northing-placed, p-rows, needs)
 
 pub p-at-spec : {M : Type 1} → statement M
 p-at-spec = tie.close (tie.spec size-at-requires returns)

@@ -1,7 +1,7 @@
 -- `tables::v_at` meets its contract. Assumes nothing.
 use Rattle.tables.specs.Figures.{vAt, vHalf}
-use Rattle.tables.proofs.Ranges.{v-between, v-rows}
-use Rattle.tables.proofs.ByName.{latitude-place}
+use Rattle.tables.proofs.Ranges.{minutes-most, v-between, v-rows}
+use Rattle.bodies.proofs.Known.{latitude-placed}
 use Rattle.tables.proofs.Answers.{read-is, read-high}
 use borrow.Author.Needs.{needs}
 use Rattle.tables.proofs.v_at.Statement.{statement}
@@ -11,12 +11,12 @@ returns : tie.Need-returns
 unfolding vAt vHalf
 returns c =
     let p = c .before .before .pre in
-    let h = v-between _ (p .0) _ (p .2) in
-    let e = c .size-at .ensures .0 in
-    (read-is e h, read-high e h, c .size-at .ensures .1)
+    let h = v-between _ (p .0 .passes) _ (p .1) in
+    let e = c .size-by .ensures .0 in
+    (read-is e h, read-high e h, c .size-by .ensures .1)
 
-size-at-requires : tie.Need-size-at-requires
-size-at-requires c κs = search (latitude-place, v-rows, needs)
+size-by-requires : tie.Need-size-by-requires
+size-by-requires c κs = search (latitude-placed, minutes-most, v-rows, needs)
 
 pub v-at-spec : {M : Type 1} → statement M
-v-at-spec = tie.close (tie.spec size-at-requires returns)
+v-at-spec = tie.close (tie.spec size-by-requires returns)

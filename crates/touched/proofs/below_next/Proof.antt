@@ -6,6 +6,7 @@ use denote.Ref.{now}
 use mir.Syntax.{w64}
 use mir.Val.{toZ, ofZ}
 use Rattle.figures.proofs.Holds.{held-literal, sum, sum-fits}
+use Rattle.rules.specs.Latitude.{mostRise}
 use Rattle.entries.specs.Layout.{latitude}
 use Rattle.entries.specs.Entries.{rowsOf}
 use Rattle.extent.proofs.Counts.{count-is}
@@ -17,10 +18,10 @@ use Rattle.touched.proofs.below_next.Tie as tie
 
 -- the row after it is there, or it is the last
 next-row : (c : tie.Then1) → let args = c .before .before .before .args in args .r + 1 < rowsOf (now (args .s)) latitude
-next-row c = let p = c .before .before .before .pre in rw (count-is _ (p .0) _ (p .1)) at (c .if1 .taken)
+next-row c = let p = c .before .before .before .pre in rw (count-is _ _ (p .0)) at (c .if1 .taken)
 
 last-row : (c : tie.Else1) → let args = c .before .before .before .args in rowsOf (now (args .s)) latitude ≤ args .r + 1
-last-row c = let p = c .before .before .before .pre in rw (count-is _ (p .0) _ (p .1)) at (c .if1 .left)
+last-row c = let p = c .before .before .before .pre in rw (count-is _ _ (p .0)) at (c .if1 .left)
 
 returns : tie.Need-returns
 returns c =
@@ -32,25 +33,28 @@ returns-2 : tie.Need-returns-2
 returns-2 c =
     let start = c .before .before .before .before in
     let same : toZ w64 (ofZ w64 (start .args .reduced)) ≡ start .args .reduced = search needs in
-    to-greatest _ _ _ _ _ same (last-row (c .before)) (sum (y0-held (c .y0-of2 .ok) (c .y0-of2 .ensures)) (held-literal w64 615_000 tt) tt .is)
+    to-greatest _ _ _ _ _ same (last-row (c .before)) (sum (y0-held (c .y0-of2 .ok) (c .y0-of2 .ensures)) (held-literal w64 mostRise tt) tt .is)
 
 add-if1 : tie.Need-add-if1
-add-if1 c = let p = c .before .pre in next-fits _ (p .0) _ (p .2)
+add-if1 c = let p = c .before .pre in next-fits _ (p .0 .passes) _ (p .1)
 
 add-y0-of : tie.Need-add-y0-of
 add-y0-of c = search needs
 
 y0-of-requires : tie.Need-y0-of-requires
-y0-of-requires c κs = let p = c .before .before .before .pre in (p .0, p .1, next-row c)
+y0-of-requires c κs = let p = c .before .before .before .pre in (p .0, next-row c)
 
 sub-y0-of : tie.Need-sub-y0-of
-sub-y0-of c = let p = c .before .before .before .pre in omega (arith, two-rows _ (p .0), last-row c)
+sub-y0-of c = let p = c .before .before .before .pre in omega (arith, two-rows _ (p .0 .passes), last-row c)
 
 y0-of-requires-2 : tie.Need-y0-of-requires-2
 y0-of-requires-2 c κs = search needs
 
+cast-result : tie.Need-cast-result
+cast-result c = search needs
+
 add-result : tie.Need-add-result
-add-result c = sum-fits (y0-held (c .y0-of2 .ok) (c .y0-of2 .ensures)) (held-literal w64 615_000 tt) tt
+add-result c = sum-fits (y0-held (c .y0-of2 .ok) (c .y0-of2 .ensures)) (held-literal w64 mostRise tt) tt
 
 pub below-next-spec : {M : Type 1} → statement M
 below-next-spec =
@@ -62,5 +66,6 @@ below-next-spec =
     returns
     sub-y0-of
     y0-of-requires-2
+    cast-result
     add-result
     returns-2)

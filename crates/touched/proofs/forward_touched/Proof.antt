@@ -3,7 +3,6 @@ use mathlib.Core.Path.{_≡_, ap, _∙_}
 use denote.Ref.{now}
 use mir.Syntax.{w32}
 use mir.Val.{toZ, ofZ}
-use Rattle.tables.proofs.ByName.{latitude-place}
 use Rattle.touched.specs.Touched.{hasMinute}
 use Rattle.touched.proofs.Answered.{geographic-none, geographic-passes}
 use borrow.Author.Needs.{needs}
@@ -18,17 +17,17 @@ found : (c : tie.After-has-minute) → let args = c .before .before .args in c .
 found c = c .has-minute .ensures ∙ ap (hasMinute _) (minute-is (c .before .before))
 
 returns : tie.Need-returns
-returns c = geographic-none _ _ _ _ (c .before .before .before .pre .0) _ (found (c .before)) (c .if1 .taken)
+returns c = geographic-none _ _ _ _ (c .before .before .before .pre .passes) _ (found (c .before)) (c .if1 .taken)
 
 returns-2 : tie.Need-returns-2
 returns-2 c =
     let start = c .before .before .before .before in
     let north : toZ w32 (ofZ w32 (start .args .latitude)) ≡ start .args .latitude = search needs in
     let west : toZ w32 (ofZ w32 (start .args .longitude)) ≡ start .args .longitude = search needs in
-    geographic-passes _ _ _ _ (start .pre .0) _ (found (c .before .before)) (c .before .if1 .left) _ (c .may-move-plane .ensures ∙ rw (minute-is start, north, west))
+    geographic-passes _ _ _ _ (start .pre .passes) _ (found (c .before .before)) (c .before .if1 .left) _ (c .may-move-plane .ensures ∙ rw (minute-is start, north, west))
 
 has-minute-requires : tie.Need-has-minute-requires
-has-minute-requires c κs = search (latitude-place, needs)
+has-minute-requires c κs = search needs
 
 may-move-plane-requires : tie.Need-may-move-plane-requires
 may-move-plane-requires c κs = search needs

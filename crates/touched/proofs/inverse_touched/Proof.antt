@@ -4,7 +4,6 @@ use denote.Ref.{now}
 use mir.Syntax.{w32}
 use mir.Val.{toZ, ofZ}
 use Rattle.words.proofs.Refusals.{kept}
-use Rattle.tables.proofs.ByName.{latitude-place}
 use Rattle.figures.proofs.Bits.{both-same}
 use Rattle.touched.specs.Touched.{hasMinute, rowNamed, inverseTouched}
 use Rattle.touched.proofs.Answered.{plane-none, plane-passes}
@@ -23,22 +22,22 @@ row-is : (c : tie.After-row-named) → let args = c .before .before .before .bef
 row-is c = c .row-named .ensures .0 ∙ ap (rowNamed _) (minute-is (c .before .before .before .before))
 
 returns : tie.Need-returns
-returns c = plane-none _ _ _ _ (c .before .before .before .pre .0) _ (found (c .before)) (c .if1 .taken)
+returns c = plane-none _ _ _ _ (c .before .before .before .pre .passes) _ (found (c .before)) (c .if1 .taken)
 
 returns-2 : tie.Need-returns-2
 returns-2 c =
     let start = c .before .before .before .before .before in
     let x : toZ w32 (ofZ w32 (start .args .x)) ≡ start .args .x = search needs in
     let y : toZ w32 (ofZ w32 (start .args .y)) ≡ start .args .y = search needs in
-    plane-passes _ _ _ _ (start .pre .0) _ (found (c .before .before .before)) (c .before .before .if1 .left) _ _ (row-is (c .before)) (c .may-move-earth .ensures ∙ both-same (inverseTouched _ _) x y)
+    plane-passes _ _ _ _ (start .pre .passes) _ (found (c .before .before .before)) (c .before .before .if1 .left) _ _ (row-is (c .before)) (c .may-move-earth .ensures ∙ both-same (inverseTouched _ _) x y)
 
 has-minute-requires : tie.Need-has-minute-requires
-has-minute-requires c κs = search (latitude-place, needs)
+has-minute-requires c κs = search needs
 
 row-named-requires : tie.Need-row-named-requires
 row-named-requires c κs =
     let p = c .before .before .before .pre in
-    (p .0, latitude-place _ _ (p .1), kept _ _ (c .before .has-minute .ensures) (c .if1 .left))
+    (p, kept _ _ (c .before .has-minute .ensures) (c .if1 .left))
 
 may-move-earth-requires : tie.Need-may-move-earth-requires
 may-move-earth-requires c κs = search needs

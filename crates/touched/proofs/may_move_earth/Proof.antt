@@ -6,7 +6,7 @@ use mir.Syntax.{w32, w64}
 use mir.Val.{toZ, ofZ}
 use Rattle.words.proofs.Refusals.{stop, go, kept}
 use Rattle.extent.specs.Extent.{xPrime, eastingKnown, northingKnown}
-use Rattle.extent.proofs.Reach.{easting-reach}
+use Rattle.extent.proofs.Reach.{easting-within}
 use Rattle.inverse.specs.Inverse.{reducedNorthing}
 use Rattle.figures.proofs.Bits.{bits-is, bits-below}
 use Rattle.touched.specs.Touched.{inverseTouched}
@@ -71,7 +71,7 @@ reduced-northing-requires : tie.Need-reduced-northing-requires
 reduced-northing-requires c κs =
     let p = c .before .before .before .before .before .before .before .pre in
     let easting = kept _ _ (c .before .before .before .before .easting-known .ensures) (c .before .before .before .if1 .left) in
-    (p .0, p .1, rw (c .size .ensures) (easting-reach _ _ easting), kept _ _ (c .before .before .northing-known .ensures) (c .before .if2 .left))
+    (p .0, rw (c .size .ensures) (easting-within _ _ easting), kept _ _ (c .before .before .northing-known .ensures) (c .before .if2 .left))
 
 above-prior-requires : tie.Need-above-prior-requires
 above-prior-requires c κs = search needs

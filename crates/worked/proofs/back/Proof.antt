@@ -1,6 +1,6 @@
 -- `worked::back` meets its contract. Assumes nothing.
 use Rattle.words.proofs.Refusals.{kept}
-use Rattle.extent.proofs.Reach.{easting-reach}
+use Rattle.extent.proofs.Reach.{easting-within}
 use Rattle.figures.proofs.Bits.{bits-below}
 use borrow.Author.Needs.{needs}
 use Rattle.worked.proofs.back.Statement.{statement}
@@ -40,7 +40,7 @@ show-reduction-requires : tie.Need-show-reduction-requires
 show-reduction-requires c κs =
     let p = c .before .before .before .before .before .before .before .before .before .before .before .before .pre in
     let there = kept _ _ (c .before .before .before .before .easting-known .ensures) (c .before .before .before .if1 .left) in
-    (p .0, p .1, rw (c .size .ensures) (easting-reach _ _ there), kept _ _ (c .before .before .northing-known .ensures) (c .before .if2 .left))
+    (p, rw (c .size .ensures) (easting-within _ _ there), kept _ _ (c .before .before .northing-known .ensures) (c .before .if2 .left))
 
 pub back-spec : {M : Type 1} → statement M
 back-spec =

@@ -31,7 +31,7 @@ longitude-known-requires c κs = search needs
 show-point-requires : tie.Need-show-point-requires
 show-point-requires c κs =
     let p = c .before .before .before .before .before .before .before .before .before .before .pre in
-    (p .0, p .1, kept _ _ (c .before .before .before .latitude-known .ensures) (c .before .before .if1 .left), kept _ _ (c .before .longitude-known .ensures) (c .if2 .left))
+    (p, kept _ _ (c .before .before .before .latitude-known .ensures) (c .before .before .if1 .left), kept _ _ (c .before .longitude-known .ensures) (c .if2 .left))
 
 pub forward-spec : {M : Type 1} → statement M
 forward-spec =

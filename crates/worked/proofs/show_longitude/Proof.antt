@@ -12,7 +12,7 @@ slice-aggregate-print-size : tie.Need-slice-aggregate-print-size
 slice-aggregate-print-size c = search needs
 
 q-of-requires : tie.Need-q-of-requires
-q-of-requires c κs = let p = c .before .before .pre in le-trans (p .2) (longitude-span _ (p .0))
+q-of-requires c κs = let p = c .before .before .pre in le-trans (p .1 .most) (longitude-span _ (p .0 .passes))
 
 print-size-requires : tie.Need-print-size-requires
 print-size-requires c κs = search needs

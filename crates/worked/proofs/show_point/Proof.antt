@@ -5,7 +5,7 @@ use mir.Syntax.{w32, w64}
 use mir.Val.{toZ, ofZ}
 use Rattle.tables.proofs.Answers.{size-is, size-fits}
 use Rattle.extent.specs.Extent.{fromFirst, lOf}
-use Rattle.extent.proofs.Reach.{latitude-reach, latitude-small, longitude-reach}
+use Rattle.extent.proofs.Reach.{latitude-reach, latitude-small, latitude-within, longitude-within}
 use Rattle.figures.proofs.Bits.{bits-is, bits-below}
 use borrow.Author.Needs.{needs}
 use Rattle.worked.proofs.show_point.Statement.{statement}
@@ -31,7 +31,7 @@ from-first-requires c κs = search needs
 cast-t : tie.Need-cast-t
 cast-t c =
     let p = c .before .before .pre in
-    size-fits (c .from-first .ok) (distance-is c) (latitude-small _ (p .0) _ (p .2)) tt
+    size-fits (c .from-first .ok) (distance-is c) (latitude-small _ (p .0 .passes) _ (p .1)) tt
 
 l-of-requires : tie.Need-l-of-requires
 l-of-requires c κs = search needs
@@ -39,8 +39,8 @@ l-of-requires c κs = search needs
 show-latitude-requires : tie.Need-show-latitude-requires
 show-latitude-requires c κs =
     let p = c .before .before .before .pre in
-    let t = size-is (c .before .from-first .ok) (distance-is (c .before)) (latitude-reach _ _ (p .2)) in
-    (p .0, p .1, rw t (latitude-reach _ _ (p .2) .high))
+    let t = size-is (c .before .from-first .ok) (distance-is (c .before)) (latitude-reach _ _ (p .1)) in
+    (p .0, rw t (latitude-within _ (p .0 .passes) _ (p .1)))
 
 slice-aggregate-print-figure : tie.Need-slice-aggregate-print-figure
 slice-aggregate-print-figure c = search needs
@@ -54,7 +54,7 @@ size-requires c κs = let l = c .before .before .before .l-of in bits-below (l .
 show-longitude-requires : tie.Need-show-longitude-requires
 show-longitude-requires c κs =
     let p = c .before .before .before .before .before .before .before .pre in
-    (p .0, p .1, rw (c .size .ensures, l-is (c .before .before .before .before)) (longitude-reach _ _ (p .3)))
+    (p .0, rw (c .size .ensures, l-is (c .before .before .before .before)) (longitude-within _ _ (p .2)))
 
 slice-aggregate-print : tie.Need-slice-aggregate-print
 slice-aggregate-print c = search needs

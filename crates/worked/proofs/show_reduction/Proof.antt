@@ -10,7 +10,7 @@ use Rattle.steps.specs.Steps.{reduction}
 use Rattle.figures.proofs.Sizes.{size-nonNeg}
 use Rattle.figures.proofs.Holds.{Holds, difference-fits, unsigned-fits}
 use Rattle.tables.specs.Figures.{pAt, dAt}
-use Rattle.extent.proofs.Reach.{northing-reach, easting-span}
+use Rattle.extent.proofs.Reach.{northing-reach, northing-within, easting-span}
 use Rattle.extent.proofs.Points.{wide, wide-fits}
 use Rattle.inverse.proofs.Longitudes.{reduction-worked, reduction-small}
 use borrow.Author.Needs.{needs}
@@ -30,7 +30,7 @@ reduction-is c =
     let p = start .pre in
     let bits : toZ w64 (ofZ w64 (c .reduction .result .value)) ≡ c .reduction .result .value = search needs in
     let worked = reduction-worked _ _ _ (wide (start .fits .y) .is) (read .before .p-at .ensures .0) (d-is read) (read .d-at .ensures .0) in
-    record { is = bits ∙ c .reduction .ensures .0 ∙ worked; size = reduction-small _ (p .0) _ _ (p .2) (northing-reach _ _ (p .3) .high) }
+    record { is = bits ∙ c .reduction .ensures .0 ∙ worked; size = reduction-small _ (p .0 .passes) _ _ (p .1) (northing-within _ _ (p .2)) }
 
 returns : tie.Need-returns
 returns c = search needs
@@ -39,12 +39,12 @@ cast-north : tie.Need-cast-north
 cast-north c = wide-fits (c .before .fits .y)
 
 cast-p-at : tie.Need-cast-p-at
-cast-p-at c = unsigned-fits (wide (c .before .fits .y)) (size-nonNeg (northing-reach _ _ (c .before .pre .3))) tt
+cast-p-at c = unsigned-fits (wide (c .before .fits .y)) (size-nonNeg (northing-reach _ _ (c .before .pre .2))) tt
 
 p-at-requires : tie.Need-p-at-requires
 p-at-requires c κs =
     let p = c .before .pre in
-    (p .0, p .1, rw (wide (c .before .fits .y) .is) (northing-reach _ _ (p .3) .high))
+    (p .0, rw (wide (c .before .fits .y) .is) (northing-within _ _ (p .2)))
 
 d-at-requires : tie.Need-d-at-requires
 d-at-requires c κs = search needs
@@ -53,7 +53,7 @@ reduction-requires : tie.Need-reduction-requires
 reduction-requires c κs =
     let read = c .before in
     let p = read .before .before .before .pre in
-    (read .before .p-at .ensures .1, le-trans (p .2) (le-trans (easting-span _ (p .0)) (lit≤ tt)), rw (d-is read) (read .d-at .ensures .1))
+    (read .before .p-at .ensures .1, le-trans (p .1 .most) (le-trans (easting-span _ (p .0 .passes)) (lit≤ tt)), rw (d-is read) (read .d-at .ensures .1))
 
 slice-aggregate-print-size : tie.Need-slice-aggregate-print-size
 slice-aggregate-print-size c = search needs

@@ -27,7 +27,7 @@ places-of-requires : tie.Need-places-of-requires
 places-of-requires c κs = sheet-long _ (sym (ap (λ v. v .number) (c .before .before .check .ensures)) ∙ c .if1 .taken)
 
 station-each-requires : tie.Need-station-each-requires
-station-each-requires c κs = (sym (ap (λ v. v .number) (c .before .before .before .check .ensures)) ∙ c .before .if1 .taken, c .places-of .ensures)
+station-each-requires c κs = record { passes = sym (ap (λ v. v .number) (c .before .before .before .check .ensures)) ∙ c .before .if1 .taken; places = c .places-of .ensures }
 
 pub work-spec : {M : Type 1} → statement M
 work-spec =

@@ -1,8 +1,8 @@
--- `entries::step_of` meets its contract. Assumes nothing.
+-- `entries::usual_step` meets its contract. Assumes nothing.
 use Rattle.entries.proofs.ByTable.{step-none}
 use borrow.Author.Needs.{needs}
-use Rattle.entries.proofs.step_of.Statement.{statement}
-use Rattle.entries.proofs.step_of.Tie as tie
+use Rattle.entries.proofs.usual_step.Statement.{statement}
+use Rattle.entries.proofs.usual_step.Tie as tie
 
 returns : tie.Need-returns
 returns c = search needs
@@ -22,5 +22,5 @@ returns-5 c = search needs
 returns-6 : tie.Need-returns-6
 returns-6 c = search step-none
 
-pub step-of-spec : {M : Type 1} → statement M
-step-of-spec = tie.close (tie.spec returns returns-2 returns-3 returns-4 returns-5 returns-6)
+pub usual-step-spec : {M : Type 1} → statement M
+usual-step-spec = tie.close (tie.spec returns returns-2 returns-3 returns-4 returns-5 returns-6)
