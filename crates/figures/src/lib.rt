@@ -78,10 +78,13 @@ pub const RAISED: u64 = 2_147_483_648;
 // The value on the straight line from one row to the next, a step apart, at an offset t: the first row's figure at 0, the next row's at the step.
 // u and w are the two figures, each raised; the answer is not raised. The sum takes u step − t times and w t times, which is step times in all, so it is too high by RAISED times the step.
 // That is taken off before the one rounding: half way from −1 to 0 is −1/2, which goes to −1. Rounded first, it would go to 0.
-pub fn between(u: u64, w: u64, t: u64, step: u64) -> Rounded
+pub fn between(u: u64, w: u64, t: u32, step: u32) -> Rounded
     requires { ⌜ (u ≤ mostRow) × (w ≤ mostRow) × (t ≤ step) × (step ≤ mostStep) × (0 < step) ⌝ }
     ensures { λ r. ⌜ (r .value ≡ between (lowered u) (lowered w) t step) × (r .half ≡ betweenHalf (lowered u) (lowered w) t step) ⌝ }
 {
-    let sum = u * (step - t) + w * t;
-    nearest(sum as i64 - (RAISED * step) as i64, step)
+    let weight = (step - t) as u64;
+    let next_weight = t as u64;
+    let divisor = step as u64;
+    let sum = u * weight + w * next_weight;
+    nearest(sum as i64 - (RAISED * divisor) as i64, divisor)
 }

@@ -75,9 +75,9 @@ fn size_of(s: &[u8], p: Places, x: u64, at: At, approximate: RoundedSize) -> Rou
     requires { ⌜ KnownToPass (now s) p × Within (now s) easting x × (at .row + 1 < rowsOf (now s) latitude) × (at .past ≤ oneMinute) × (approximate .value ≡ approximateOf (now s) x (at .row * oneMinute + at .past)) × (sizeKnown (now s) (pos (approximate .value)) ≡ true) × (approximate .half ≡ approximateLHalf x (hAt (now s) (at .row * oneMinute + at .past))) ⌝ }
     ensures { λ r. ⌜ (r .value ≡ sizeOf (now (s .entry)) x (at .row * oneMinute + at .past)) × (r .half ≡ sizeHalf (now (s .entry)) x (at .row * oneMinute + at .past)) ⌝ }
 {
+    let b = tables::b_at(s, p, approximate.value);
     let h = tables::h_past(s, p, at);
     let a = tables::a_past(s, p, at);
-    let b = tables::b_at(s, p, approximate.value);
     let l = steps::size_of_l(x, a.value, b.value, h.value);
     Rounded {
         value: l.value as i64,

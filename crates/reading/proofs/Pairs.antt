@@ -4,7 +4,7 @@ use mathlib.Core.Path.{_≡_, sym, ap, _∙_}
 use mathlib.Core.Bool.{true}
 use mathlib.Core.List.{List}
 use Prim.Native.Nat.{ℕ, _+_, _*_, _-_, _/_, _%_, _<_, _≤_, min}
-use native.Mathlib.Nat.{mul-add, mul-one, add-mul, mul-le-mul-right, div-add-mod', mod-lt}
+use native.Mathlib.Nat.{mul-add, mul-one, add-mul, mul-le-mul-right, div-add-mod', div-le-self, mod-lt}
 use native.Mathlib.Decide.{decLe, decLt}
 use native.Mathlib.Omega.{arith}
 use lib.Arith.{digits-div, digits-mod}
@@ -55,6 +55,10 @@ module _ (f : ℕ → ℤ) (i past step : ℕ) (p : 0 < step) (most : past ≤ s
 module _ (n step offset i : ℕ) (two : 2 ≤ n) (p : 0 < step) (h : offset ≤ (n - 1) * step) (e : i ≡ min (offset / step) (n - 2)) where
   pub pair-there : i + 1 < n
   pair-there = omega arith
+
+  -- its number fits where the offset does
+  pub row-most : i ≤ offset
+  row-most = omega (arith, div-le-self offset step)
 
   -- what lies before row i, and past it
   pub back-most : i * step ≤ offset

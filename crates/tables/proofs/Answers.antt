@@ -37,9 +37,13 @@ module _ {r : ℕ} {v : ℤ} {low high : ℕ} (e : pos r ≡ v) (h : Size low v 
   pub read-high : r ≤ high
   read-high = rw read-is (h .high)
 
-  -- and cast to a signed type
+  -- that a signed type holds
+  pub read-small : T (ltb high (2 ^ 63)) → r < 2 ^ 63
+  read-small t = lt-of-le-of-lt read-high (ltb→lt high (2 ^ 63) t)
+
+  -- and cast to it
   pub read-signed : T (ltb high (2 ^ 63)) → SFits w64 (pos r)
-  read-signed t = record { sfits = lt-of-le-of-lt read-high (ltb→lt high (2 ^ 63) t) }
+  read-signed t = record { sfits = read-small t }
 
   pub read-signed-is : T (ltb high (2 ^ 63)) → (toZ w64 r ≡ v) × (natAbs (toZ w64 r) ≤ high)
   read-signed-is t =

@@ -3,23 +3,23 @@ use mathlib.Core.Path.{_≡_, sym, ap, _∙_}
 use mathlib.Core.Bool.{Bool, true}
 use mathlib.Core.List.{List}
 use Prim.Native.Nat.{ℕ, _+_, _*_, _-_, _<_, _≤_}
-use native.Mathlib.Nat.{mul-comm, le-trans, le-of-lt}
+use native.Mathlib.Nat.{mul-comm, mul-le-mul-right, le-trans, lt-of-le-of-lt, le-of-lt}
 use native.Mathlib.Omega.{arith}
 use lib.Dec.{lit<, lit≤}
 use lib.IntN.{ℤ, pos}
 use lib.ListN.{length}
 use lib.Signed.{leZ}
-use mir.Syntax.{w64}
+use mir.Syntax.{w32, w64}
 use mir.Val.{Fits, toZ}
 use Rattle.figures.specs.Ranges.{mostStep}
 use Rattle.figures.proofs.Holds.{held-size}
 use Rattle.words.specs.Words.{unsignedAt, wordAt}
 use Rattle.entries.specs.declared.Place.{Place}
-use Rattle.entries.specs.Layout.{lastKind, mostBytes, widthOf, leastRows, usualStep}
+use Rattle.entries.specs.Layout.{lastKind, mostBytes, widthOf, leastRows, mostRows, usualStep}
 use Rattle.entries.specs.Entries.{rowsOf, stepOf, lastOf, bodyOf, Within}
 use Rattle.entries.proofs.ByKind.{by-kind}
 use Rattle.contents.specs.Contents.{contentsOf, Placed}
-use Rattle.contents.proofs.Passing.{passed, rows-least, step-usual, body-within}
+use Rattle.contents.proofs.Passing.{passed, rows-least, rows-most, step-usual, body-within}
 use Rattle.reading.specs.Tables.{column, valueAt, valueHalf, NotNegative}
 use Rattle.reading.proofs.Within.{row-within}
 use Rattle.reading.proofs.Unsigned.{word-size}
@@ -39,12 +39,22 @@ usual-some =
     (λ h. lit< tt)
     (λ h. lit< tt)
 
+usual-last : (kind : ℕ) → 1 ≤ kind → kind ≤ lastKind → (mostRows kind - 1) * usualStep kind < 4_294_967_296
+usual-last = by-kind (λ (k : ℕ). (mostRows k - 1) * usualStep k < 4_294_967_296) (lit< tt) (lit< tt) (lit< tt) (lit< tt) (lit< tt) (lit< tt)
+
 module _ (s : List ℕ) (z : contentsOf s .number ≡ 0) (kind : ℕ) (l : 1 ≤ kind) (h : kind ≤ lastKind) where
   pub step-most : stepOf s kind ≤ mostStep
   step-most = rw (step-usual s z kind l h) (usual-most kind l h)
 
   pub step-above : 2 ≤ leastRows kind → 0 < stepOf s kind
   step-above two = rw (step-usual s z kind l h) (usual-some kind l h two)
+
+  -- the last row's offset is a number of 32 bits
+  last-small : lastOf s kind < 4_294_967_296
+  unfolding lastOf
+  last-small =
+      let rows : rowsOf s kind - 1 ≤ mostRows kind - 1 = omega (arith, rows-most s z kind l h) in
+      rw (step-usual s z kind l h) (lt-of-le-of-lt (mul-le-mul-right (usualStep kind) rows) (usual-last kind l h))
 
 -- ---- the place
 module _ (s : List ℕ) (kind : ℕ) (p : Place) (placed : Placed s kind p) where
@@ -57,28 +67,27 @@ module _ (s : List ℕ) (kind : ℕ) (p : Place) (placed : Placed s kind p) wher
   pub rows-two : 2 ≤ leastRows kind → 2 ≤ p .rows
   rows-two two = rw place-rows (le-trans two (rows-least s (placed .contents) kind (placed .least) (placed .most)))
 
-  -- a step that is the usual one is the place's
-  module _ (step : ℕ) (usual : step ≡ usualStep kind) where
-    is-step : step ≡ stepOf s kind
-    is-step = usual ∙ sym (step-usual s (placed .contents) kind (placed .least) (placed .most))
+  -- a number that the place's step was found to be
+  pub found-step : (n : ℕ) → p .step ≡ n → n ≡ stepOf s kind
+  found-step n e = sym e ∙ place-step
 
+  -- an offset within the table, and the table's step
+  pub offset-fits : (offset : ℕ) → Within s kind offset → Fits w32 offset
+  offset-fits offset within = record { fits = lt-of-le-of-lt (within .most) (last-small s (placed .contents) kind (placed .least) (placed .most)) }
+
+  module _ (step : ℕ) (is-step : step ≡ stepOf s kind) where
     pub step-some : 2 ≤ leastRows kind → 0 < step
     step-some two = rw is-step (step-above s (placed .contents) kind (placed .least) (placed .most) two)
 
     pub step-small : step ≤ mostStep
     step-small = rw is-step (step-most s (placed .contents) kind (placed .least) (placed .most))
 
-    pub offset-most : (offset : ℕ) → Within s kind offset → offset ≤ (rowsOf s kind - 1) * step
+    pub step-fits : Fits w32 step
+    step-fits = record { fits = lt-of-le-of-lt step-small (lit< tt) }
+
+    pub offset-inside : (offset : ℕ) → Within s kind offset → offset ≤ (p .rows - 1) * step
     unfolding lastOf
-    offset-most offset within = rw is-step (within .most)
-
-    -- what is read at that step is the figure
-    module _ (number offset : ℕ) where
-      pub value-is : (r : ℤ) → r ≡ valueAt (figureOf s kind number) step offset → r ≡ figureAt s kind number offset
-      value-is r q = q ∙ rw is-step
-
-      pub half-is : (r : Bool) → r ≡ valueHalf (figureOf s kind number) step offset → r ≡ figureHalf s kind number offset
-      half-is r q = q ∙ rw is-step
+    offset-inside offset within = rw (place-rows, is-step) (within .most)
 
   -- ---- the body that was cut
   module _ (b : List ℕ) (is : b ≡ bodyOf s kind) (long : length b ≡ 4 * (p .rows * widthOf kind)) (width : ℕ) (w : width ≡ widthOf kind) where
@@ -114,13 +123,10 @@ module _ (s : List ℕ) (kind : ℕ) (p : Place) (placed : Placed s kind p) wher
           let size = word-size b (width * i + number) n q small (rw figure-word sign) in
           held-size w64 (le-of-lt small) tt .is ∙ sym size ∙ figure-word
 
-    -- what a reading at an offset asks, at any step
-    module _ (number offset step : ℕ) where
+    -- what a reading at an offset asks
+    module _ (number : ℕ) where
       pub column-inside : number < widthOf kind → number < width
       column-inside c = rw w c
-
-      pub offset-inside : offset ≤ (rowsOf s kind - 1) * step → offset ≤ (p .rows - 1) * step
-      offset-inside most = rw place-rows most
 
       lent-is : column b width number ≡ figureOf s kind number
       lent-is = rw (is, w)
@@ -128,9 +134,10 @@ module _ (s : List ℕ) (kind : ℕ) (p : Place) (placed : Placed s kind p) wher
       pub lent-sizes : NotNegative (figureOf s kind number) (rowsOf s kind) → NotNegative (column b width number) (p .rows)
       lent-sizes all = rw (lent-is, place-rows) all
 
-      -- and what it gives
-      pub value-of : (r : ℤ) → r ≡ valueAt (column b width number) step offset → r ≡ valueAt (figureOf s kind number) step offset
-      value-of r q = q ∙ rw lent-is
+      -- and what it gives, at the table's step
+      module _ (offset step : ℕ) (is-step : step ≡ stepOf s kind) where
+        pub value-is : (r : ℤ) → r ≡ valueAt (column b width number) step offset → r ≡ figureAt s kind number offset
+        value-is r q = q ∙ rw (lent-is, is-step)
 
-      pub half-of : (r : Bool) → r ≡ valueHalf (column b width number) step offset → r ≡ valueHalf (figureOf s kind number) step offset
-      half-of r q = q ∙ rw lent-is
+        pub half-is : (r : Bool) → r ≡ valueHalf (column b width number) step offset → r ≡ figureHalf s kind number offset
+        half-is r q = q ∙ rw (lent-is, is-step)

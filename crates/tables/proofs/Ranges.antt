@@ -1,5 +1,5 @@
 -- The figures of a sheet that passes keep their ranges, at its rows and between them; and y0 rises from row to row. Assumes nothing.
-use mathlib.Core.Path.{_≡_}
+use mathlib.Core.Path.{_≡_, sym}
 use mathlib.Core.Bool.{true}
 use mathlib.Core.List.{List}
 use Prim.Native.Nat.{ℕ, _+_, _*_, _-_, _<_, _≤_, zero-le}
@@ -25,7 +25,7 @@ use Rattle.bodies.proofs.Sound.{passes-sound, zone-rows, latitude-rows, longitu
 use Rattle.reading.specs.Tables.{NotNegative}
 use Rattle.row_search.specs.Rows.{RisesBy}
 use Rattle.reading.proofs.Values.{value-most, value-size, value-slope}
-use Rattle.tables.specs.Figures.{figureOf, figureAt, latitudeAt, centralMeridian, falseEasting, firstLatitude, y0Of, y0At, hAt, aAt, bAt, cAt, dAt, kAt}
+use Rattle.tables.specs.Figures.{figureOf, figureAt, figureHalf, latitudeAt, latitudeHalf, centralMeridian, falseEasting, firstLatitude, y0Of, y0At, hAt, aAt, bAt, cAt, dAt, kAt}
 use Rattle.tables.proofs.Parts.{step-above}
 
 -- a body of one word in a row
@@ -57,7 +57,17 @@ module _ (s : List ℕ) (z : checkOf s .number ≡ 0) where
   pub latitude-two : 2 ≤ rowsOf s latitude
   latitude-two = rows-least s (contents-none s z) latitude (lit≤ tt) (lit≤ tt)
 
-  -- a latitude's distance from row 0 that lies within the table, and the other way: its rows stand a minute apart
+  -- the latitude rows stand a minute apart
+  pub minute-step : oneMinute ≡ stepOf s latitude
+  minute-step = sym (step-usual s (contents-none s z) latitude (lit≤ tt) (lit≤ tt))
+
+  pub latitude-is : (number t : ℕ) → figureAt s latitude number t ≡ latitudeAt s number t
+  latitude-is number t = rw minute-step
+
+  pub latitude-half-is : (number t : ℕ) → figureHalf s latitude number t ≡ latitudeHalf s number t
+  latitude-half-is number t = rw minute-step
+
+  -- a latitude's distance from row 0 that lies within the table, and the other way
   pub minutes-most : (t : ℕ) → Within s latitude t → t ≤ (rowsOf s latitude - 1) * oneMinute
   unfolding lastOf
   minutes-most t h = rw (step-usual s (contents-none s z) latitude (lit≤ tt) (lit≤ tt)) at (h .most)

@@ -8,12 +8,12 @@ ghost use mathlib.Core.Bool.{true};
 ghost use Prim.Native.Nat.{_+_, _-_, _*_, _^_, _<_, _≤_, min};
 ghost use lib.IntN.{pos, natAbs};
 ghost use lib.Signed.{leZ};
-ghost use Rattle.figures.specs.Ranges.{mostStep, mostH, mostV, mostA, mostB, mostC, mostP, mostM, mostD};
+ghost use Rattle.figures.specs.Ranges.{mostH, mostV, mostA, mostB, mostC, mostP, mostM, mostD};
 ghost use Rattle.entries.specs.Layout.{latitude, longitude, northing, easting, scale, widthOf, leastRows, oneMinute};
-ghost use Rattle.entries.specs.Entries.{rowsOf, Within};
+ghost use Rattle.entries.specs.Entries.{rowsOf, stepOf, Within};
 ghost use Rattle.contents.specs.Contents.{Placed};
 ghost use Rattle.bodies.specs.Check.{KnownToPass};
-ghost use Rattle.reading.specs.Tables.{valueAt, valueHalf, NotNegative};
+ghost use Rattle.reading.specs.Tables.{NotNegative};
 ghost use Rattle.row_search.specs.Rows.{lastNotAbove};
 ghost use Rattle.tables.specs.Figures.{figureOf, figureAt, figureHalf, centralMeridian, falseEasting, firstLatitude, y0Of, y0At, y0Half, hAt, hHalf, vAt, vHalf, aAt, aHalf, bAt, bHalf, cAt, cHalf, pAt, pHalf, mAt, mHalf, dAt, dHalf, kAt, kHalf};
 
@@ -32,13 +32,20 @@ fn figure_of(s: &[u8], place: Place, kind: usize, number: usize, i: usize) -> i6
     words::unsigned_word(b, entries::width_of(kind) * i + number) as i64
 }
 
-// The figure of a column of the kind at an offset from row 0, for rows that stand a step apart.
+// The figure of a column of the kind at an offset from row 0. The step is the table's: where it is given as a constant, the compiler divides by it with a product.
 fn value_by(s: &[u8], place: Place, kind: usize, number: usize, step: u64, offset: u64) -> Rounded
-    requires { ⌜ Placed (now s) kind place × (2 ≤ leastRows kind) × (number < widthOf kind) × (0 < step) × (step ≤ mostStep) × (offset ≤ (rowsOf (now s) kind - 1) * step) ⌝ }
-    ensures { λ r. ⌜ (r .value ≡ valueAt (figureOf (now (s .entry)) kind number) step offset) × (r .half ≡ valueHalf (figureOf (now (s .entry)) kind number) step offset) ⌝ }
+    requires { ⌜ Placed (now s) kind place × (2 ≤ leastRows kind) × (number < widthOf kind) × (step ≡ stepOf (now s) kind) × Within (now s) kind offset ⌝ }
+    ensures { λ r. ⌜ (r .value ≡ figureAt (now (s .entry)) kind number offset) × (r .half ≡ figureHalf (now (s .entry)) kind number offset) ⌝ }
 {
     let b = contents::body(s, place, kind);
-    reading::value_at(b, entries::width_of(kind), number, place.rows, step, offset)
+    reading::value_at(
+        b,
+        entries::width_of(kind),
+        number,
+        place.rows,
+        step as u32,
+        offset as u32,
+    )
 }
 
 // The same of a column in which no figure is negative.
@@ -50,27 +57,29 @@ fn size_by(
     step: u64,
     offset: u64,
 ) -> RoundedSize
-    requires { ⌜ Placed (now s) kind place × (2 ≤ leastRows kind) × (number < widthOf kind) × (0 < step) × (step ≤ mostStep) × (offset ≤ (rowsOf (now s) kind - 1) * step) × NotNegative (figureOf (now s) kind number) (rowsOf (now s) kind) ⌝ }
-    ensures { λ r. ⌜ (pos (r .value) ≡ valueAt (figureOf (now (s .entry)) kind number) step offset) × (r .half ≡ valueHalf (figureOf (now (s .entry)) kind number) step offset) ⌝ }
-{
-    let b = contents::body(s, place, kind);
-    reading::size_at(b, entries::width_of(kind), number, place.rows, step, offset)
-}
-
-// The figure of a column of the kind at an offset from row 0, by the step of the place. In every form it is the usual one, a constant: the compiler divides by it with a product.
-fn figure_at(s: &[u8], place: Place, kind: usize, number: usize, offset: u64) -> Rounded
-    requires { ⌜ Placed (now s) kind place × (2 ≤ leastRows kind) × (number < widthOf kind) × Within (now s) kind offset ⌝ }
-    ensures { λ r. ⌜ (r .value ≡ figureAt (now (s .entry)) kind number offset) × (r .half ≡ figureHalf (now (s .entry)) kind number offset) ⌝ }
-{
-    value_by(s, place, kind, number, entries::usual_step(kind), offset)
-}
-
-// The same of a column in which no figure is negative.
-fn size_at(s: &[u8], place: Place, kind: usize, number: usize, offset: u64) -> RoundedSize
-    requires { ⌜ Placed (now s) kind place × (2 ≤ leastRows kind) × (number < widthOf kind) × Within (now s) kind offset × NotNegative (figureOf (now s) kind number) (rowsOf (now s) kind) ⌝ }
+    requires { ⌜ Placed (now s) kind place × (2 ≤ leastRows kind) × (number < widthOf kind) × (step ≡ stepOf (now s) kind) × Within (now s) kind offset × NotNegative (figureOf (now s) kind number) (rowsOf (now s) kind) ⌝ }
     ensures { λ r. ⌜ (pos (r .value) ≡ figureAt (now (s .entry)) kind number offset) × (r .half ≡ figureHalf (now (s .entry)) kind number offset) ⌝ }
 {
-    size_by(s, place, kind, number, entries::usual_step(kind), offset)
+    let b = contents::body(s, place, kind);
+    reading::size_at(
+        b,
+        entries::width_of(kind),
+        number,
+        place.rows,
+        step as u32,
+        offset as u32,
+    )
+}
+
+// A size as a number with a sign.
+fn signed(r: RoundedSize) -> Rounded
+    requires { ⌜ r .value < 2 ^ 63 ⌝ }
+    ensures { λ z. ⌜ (z .value ≡ pos (r .value)) × (z .half ≡ r .half) ⌝ }
+{
+    Rounded {
+        value: r.value as i64,
+        half: r.half,
+    }
 }
 
 // The central meridian, in 0.001″.
@@ -144,11 +153,7 @@ pub fn y0_at(s: &[u8], p: Places, t: u64) -> Rounded
     requires { ⌜ KnownToPass (now s) p × Within (now s) latitude t ⌝ }
     ensures { λ r. ⌜ (r .value ≡ y0At (now (s .entry)) t) × (natAbs (r .value) ≤ 999_999_999) × (r .half ≡ y0Half (now (s .entry)) t) ⌝ }
 {
-    let r = size_by(s, p.latitude, entries::LATITUDE, 1, entries::ONE_MINUTE, t);
-    Rounded {
-        value: r.value as i64,
-        half: r.half,
-    }
+    signed(size_by(s, p.latitude, entries::LATITUDE, 1, entries::ONE_MINUTE, t))
 }
 
 // H at t from row 0, in 0.000001.
@@ -170,8 +175,8 @@ pub fn h_past(s: &[u8], p: Places, at: At) -> RoundedSize
         entries::LATITUDE_WIDTH,
         3,
         at.row,
-        at.past,
-        entries::ONE_MINUTE,
+        at.past as u32,
+        entries::ONE_MINUTE as u32,
     )
 }
 
@@ -202,9 +207,35 @@ pub fn a_past(s: &[u8], p: Places, at: At) -> Rounded
         entries::LATITUDE_WIDTH,
         7,
         at.row,
-        at.past,
-        entries::ONE_MINUTE,
+        at.past as u32,
+        entries::ONE_MINUTE as u32,
     )
+}
+
+// b in 0.001 and c in 0.001 ft, at one size of L.
+pub struct Longitude {
+    pub b: Rounded,
+    pub c: Rounded,
+}
+
+// b and c at a size of L. Here and below the usual step is tested for, and given as a constant. The two ways stand apart down to the reading: one way to both would have the
+// compiler divide by a step that it does not know.
+pub fn longitude_at(s: &[u8], p: Places, size: u64) -> Longitude
+    requires { ⌜ KnownToPass (now s) p × Within (now s) longitude size ⌝ }
+    ensures { λ r. ⌜ (r .b .value ≡ bAt (now (s .entry)) size) × (natAbs (r .b .value) ≤ mostB) × (r .b .half ≡ bHalf (now (s .entry)) size) × (r .c .value ≡ cAt (now (s .entry)) size) × (natAbs (r .c .value) ≤ mostC) × (r .c .half ≡ cHalf (now (s .entry)) size) ⌝ }
+{
+    let usual = entries::usual_step(entries::LONGITUDE);
+    let step = p.longitude.step;
+    if step == usual {
+        return Longitude {
+            b: value_by(s, p.longitude, entries::LONGITUDE, 0, usual, size),
+            c: value_by(s, p.longitude, entries::LONGITUDE, 1, usual, size),
+        };
+    }
+    Longitude {
+        b: value_by(s, p.longitude, entries::LONGITUDE, 0, step, size),
+        c: value_by(s, p.longitude, entries::LONGITUDE, 1, step, size),
+    }
 }
 
 // b at a size of L, in 0.001.
@@ -212,15 +243,12 @@ pub fn b_at(s: &[u8], p: Places, size: u64) -> Rounded
     requires { ⌜ KnownToPass (now s) p × Within (now s) longitude size ⌝ }
     ensures { λ r. ⌜ (r .value ≡ bAt (now (s .entry)) size) × (natAbs (r .value) ≤ mostB) × (r .half ≡ bHalf (now (s .entry)) size) ⌝ }
 {
-    figure_at(s, p.longitude, entries::LONGITUDE, 0, size)
-}
-
-// c at a size of L, in 0.001 ft.
-pub fn c_at(s: &[u8], p: Places, size: u64) -> Rounded
-    requires { ⌜ KnownToPass (now s) p × Within (now s) longitude size ⌝ }
-    ensures { λ r. ⌜ (r .value ≡ cAt (now (s .entry)) size) × (natAbs (r .value) ≤ mostC) × (r .half ≡ cHalf (now (s .entry)) size) ⌝ }
-{
-    figure_at(s, p.longitude, entries::LONGITUDE, 1, size)
+    let usual = entries::usual_step(entries::LONGITUDE);
+    let step = p.longitude.step;
+    if step == usual {
+        return value_by(s, p.longitude, entries::LONGITUDE, 0, usual, size);
+    }
+    value_by(s, p.longitude, entries::LONGITUDE, 0, step, size)
 }
 
 // P at y, in 0.00001.
@@ -228,7 +256,12 @@ pub fn p_at(s: &[u8], p: Places, y: u64) -> RoundedSize
     requires { ⌜ KnownToPass (now s) p × Within (now s) northing y ⌝ }
     ensures { λ r. ⌜ (r .value ≡ pAt (now (s .entry)) y) × (r .value ≤ mostP) × (r .half ≡ pHalf (now (s .entry)) y) ⌝ }
 {
-    size_at(s, p.northing, entries::NORTHING, 0, y)
+    let usual = entries::usual_step(entries::NORTHING);
+    let step = p.northing.step;
+    if step == usual {
+        return size_by(s, p.northing, entries::NORTHING, 0, usual, y);
+    }
+    size_by(s, p.northing, entries::NORTHING, 0, step, y)
 }
 
 // M at y, in 10⁻⁷.
@@ -236,7 +269,12 @@ pub fn m_at(s: &[u8], p: Places, y: u64) -> RoundedSize
     requires { ⌜ KnownToPass (now s) p × Within (now s) northing y ⌝ }
     ensures { λ r. ⌜ (r .value ≡ mAt (now (s .entry)) y) × (r .value ≤ mostM) × (r .half ≡ mHalf (now (s .entry)) y) ⌝ }
 {
-    size_at(s, p.northing, entries::NORTHING, 1, y)
+    let usual = entries::usual_step(entries::NORTHING);
+    let step = p.northing.step;
+    if step == usual {
+        return size_by(s, p.northing, entries::NORTHING, 1, usual, y);
+    }
+    size_by(s, p.northing, entries::NORTHING, 1, step, y)
 }
 
 // d at a size of x′, in 0.01 ft.
@@ -244,7 +282,12 @@ pub fn d_at(s: &[u8], p: Places, size: u64) -> Rounded
     requires { ⌜ KnownToPass (now s) p × Within (now s) easting size ⌝ }
     ensures { λ r. ⌜ (r .value ≡ dAt (now (s .entry)) size) × (natAbs (r .value) ≤ mostD) × (r .half ≡ dHalf (now (s .entry)) size) ⌝ }
 {
-    figure_at(s, p.easting, entries::EASTING, 0, size)
+    let usual = entries::usual_step(entries::EASTING);
+    let step = p.easting.step;
+    if step == usual {
+        return value_by(s, p.easting, entries::EASTING, 0, usual, size);
+    }
+    value_by(s, p.easting, entries::EASTING, 0, step, size)
 }
 
 // k at a size of x′, in 10⁻⁷.
@@ -252,9 +295,10 @@ pub fn k_at(s: &[u8], p: Places, size: u64) -> Rounded
     requires { ⌜ KnownToPass (now s) p × Within (now s) scale size ⌝ }
     ensures { λ r. ⌜ (r .value ≡ kAt (now (s .entry)) size) × (natAbs (r .value) ≤ 10_010_000) × (r .half ≡ kHalf (now (s .entry)) size) ⌝ }
 {
-    let r = size_at(s, p.scale, entries::SCALE, 0, size);
-    Rounded {
-        value: r.value as i64,
-        half: r.half,
+    let usual = entries::usual_step(entries::SCALE);
+    let step = p.scale.step;
+    if step == usual {
+        return signed(size_by(s, p.scale, entries::SCALE, 0, usual, size));
     }
+    signed(size_by(s, p.scale, entries::SCALE, 0, step, size))
 }

@@ -9,8 +9,11 @@ use Rattle.figures.proofs.Raised.{first-fits, second-fits, weighed-fits
 use Rattle.figures.proofs.between.Statement.{statement}
 use Rattle.figures.proofs.between.Tie as tie
 
-sub-sum : tie.Need-sub-sum
-sub-sum c = search needs
+sub-weight : tie.Need-sub-weight
+sub-weight c = search needs
+
+cast-weight : tie.Need-cast-weight
+cast-weight c = search needs
 
 mul-sum : tie.Need-mul-sum
 mul-sum c = search first-fits
@@ -49,7 +52,8 @@ pub between-spec : {M : Type 1} → statement M
 between-spec =
     tie.close
     (tie.spec
-    sub-sum
+    sub-weight
+    cast-weight
     mul-sum
     mul-sum-2
     add-sum

@@ -29,8 +29,11 @@ unsigned-word-requires-2 c κs = search needs
 cast-next : tie.Need-cast-next
 cast-next c = search needs
 
-sub-nearest-size : tie.Need-sub-nearest-size
-sub-nearest-size c = search needs
+sub-weight : tie.Need-sub-weight
+sub-weight c = search needs
+
+cast-weight : tie.Need-cast-weight
+cast-weight c = search needs
 
 mul-nearest-size : tie.Need-mul-nearest-size
 mul-nearest-size c = search (first-fits, word-row)
@@ -55,7 +58,8 @@ size-past-row-spec =
     add-unsigned-word
     unsigned-word-requires-2
     cast-next
-    sub-nearest-size
+    sub-weight
+    cast-weight
     mul-nearest-size
     mul-nearest-size-2
     add-nearest-size

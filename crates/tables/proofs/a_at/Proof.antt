@@ -1,6 +1,7 @@
 -- `tables::a_at` meets its contract. Assumes nothing.
+use mathlib.Core.Path.{_∙_}
 use Rattle.tables.specs.Figures.{aAt, aHalf}
-use Rattle.tables.proofs.Ranges.{minutes-most, a-most}
+use Rattle.tables.proofs.Ranges.{minute-step, latitude-is, latitude-half-is, a-most}
 use Rattle.bodies.proofs.Known.{latitude-placed}
 use borrow.Author.Needs.{needs}
 use Rattle.tables.proofs.a_at.Statement.{statement}
@@ -10,11 +11,11 @@ returns : tie.Need-returns
 unfolding aAt aHalf
 returns c =
     let p = c .before .before .pre in
-    let e = c .value-by .ensures .0 in
-    (e, rw e (a-most _ (p .0 .passes) _ (p .1)), c .value-by .ensures .1)
+    let e = c .value-by .ensures .0 ∙ latitude-is _ (p .0 .passes) 7 _ in
+    (e, rw e (a-most _ (p .0 .passes) _ (p .1)), c .value-by .ensures .1 ∙ latitude-half-is _ (p .0 .passes) 7 _)
 
 value-by-requires : tie.Need-value-by-requires
-value-by-requires c κs = search (latitude-placed, minutes-most, needs)
+value-by-requires c κs = search (latitude-placed, minute-step, needs)
 
 pub a-at-spec : {M : Type 1} → statement M
 a-at-spec = tie.close (tie.spec value-by-requires returns)

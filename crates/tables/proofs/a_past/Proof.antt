@@ -11,18 +11,24 @@ use Rattle.tables.proofs.a_past.Tie as tie
 body-requires : tie.Need-body-requires
 body-requires c κs = search latitude-placed
 
+cast-past-row : tie.Need-cast-past-row
+cast-past-row c = search needs
+
+cast-past-row-2 : tie.Need-cast-past-row-2
+cast-past-row-2 c = search needs
+
 past-row-requires : tie.Need-past-row-requires
 past-row-requires c κs = search (past-words, latitude-placed, needs)
 
 returns : tie.Need-returns
 unfolding aAt aHalf
 returns c =
-    let p = c .before .before .before .pre in
-    let body = c .before .body .ensures in
+    let p = c .before .before .before .before .pre in
+    let body = c .before .before .body .ensures in
     let placed = latitude-placed _ _ (p .0) in
     let within = past-within _ (p .0 .passes) _ _ (p .1) (p .2) in
     let e = c .past-row .ensures .0 ∙ past-is _ _ placed _ (body .0) (body .1) 7 _ _ (p .2) in
     (e, rw e (a-most _ (p .0 .passes) _ within), c .past-row .ensures .1 ∙ past-half-is _ _ placed _ (body .0) (body .1) 7 _ _ (p .2))
 
 pub a-past-spec : {M : Type 1} → statement M
-a-past-spec = tie.close (tie.spec body-requires past-row-requires returns)
+a-past-spec = tie.close (tie.spec body-requires cast-past-row cast-past-row-2 past-row-requires returns)

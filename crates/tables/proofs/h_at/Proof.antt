@@ -1,6 +1,7 @@
 -- `tables::h_at` meets its contract. Assumes nothing.
+use mathlib.Core.Path.{_∙_}
 use Rattle.tables.specs.Figures.{hAt, hHalf}
-use Rattle.tables.proofs.Ranges.{minutes-most, h-between, h-rows}
+use Rattle.tables.proofs.Ranges.{minute-step, latitude-is, latitude-half-is, h-between, h-rows}
 use Rattle.bodies.proofs.Known.{latitude-placed}
 use Rattle.tables.proofs.Answers.{read-is, read-low, read-high}
 use borrow.Author.Needs.{needs}
@@ -12,11 +13,11 @@ unfolding hAt hHalf
 returns c =
     let p = c .before .before .pre in
     let h = h-between _ (p .0 .passes) _ (p .1) in
-    let e = c .size-by .ensures .0 in
-    (read-is e h, read-low e h, read-high e h, c .size-by .ensures .1)
+    let e = c .size-by .ensures .0 ∙ latitude-is _ (p .0 .passes) 3 _ in
+    (read-is e h, read-low e h, read-high e h, c .size-by .ensures .1 ∙ latitude-half-is _ (p .0 .passes) 3 _)
 
 size-by-requires : tie.Need-size-by-requires
-size-by-requires c κs = search (latitude-placed, minutes-most, h-rows, needs)
+size-by-requires c κs = search (latitude-placed, minute-step, h-rows, needs)
 
 pub h-at-spec : {M : Type 1} → statement M
 h-at-spec = tie.close (tie.spec size-by-requires returns)

@@ -12,21 +12,28 @@ use Rattle.tables.proofs.h_past.Tie as tie
 body-requires : tie.Need-body-requires
 body-requires c κs = search latitude-placed
 
+cast-size-past-row : tie.Need-cast-size-past-row
+cast-size-past-row c = search needs
+
+cast-size-past-row-2 : tie.Need-cast-size-past-row-2
+cast-size-past-row-2 c = search needs
+
 size-past-row-requires : tie.Need-size-past-row-requires
 size-past-row-requires c κs =
-    let p = c .before .before .pre in
-    let sizes = past-sizes _ _ (latitude-placed _ _ (p .0)) _ (c .body .ensures .0) (c .body .ensures .1) 3 _ (p .1) (h-rows _ (p .0 .passes)) in
+    let p = c .before .before .before .pre in
+    let body = c .before .body .ensures in
+    let sizes = past-sizes _ _ (latitude-placed _ _ (p .0)) _ (body .0) (body .1) 3 _ (p .1) (h-rows _ (p .0 .passes)) in
     search (past-words, latitude-placed, sizes, needs)
 
 returns : tie.Need-returns
 unfolding hAt hHalf
 returns c =
-    let p = c .before .before .before .pre in
-    let body = c .before .body .ensures in
+    let p = c .before .before .before .before .pre in
+    let body = c .before .before .body .ensures in
     let placed = latitude-placed _ _ (p .0) in
     let h = h-between _ (p .0 .passes) _ (past-within _ (p .0 .passes) _ _ (p .1) (p .2)) in
     let e = c .size-past-row .ensures .0 ∙ past-is _ _ placed _ (body .0) (body .1) 3 _ _ (p .2) in
     (read-is e h, read-low e h, read-high e h, c .size-past-row .ensures .1 ∙ past-half-is _ _ placed _ (body .0) (body .1) 3 _ _ (p .2))
 
 pub h-past-spec : {M : Type 1} → statement M
-h-past-spec = tie.close (tie.spec body-requires size-past-row-requires returns)
+h-past-spec = tie.close (tie.spec body-requires cast-size-past-row cast-size-past-row-2 size-past-row-requires returns)

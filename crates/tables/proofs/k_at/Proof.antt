@@ -1,29 +1,59 @@
 -- `tables::k_at` meets its contract. Assumes nothing.
+use mathlib.Core.Path.{_∙_}
 use Rattle.tables.specs.Figures.{kAt, kHalf}
+use Rattle.tables.proofs.Parts.{found-step, place-step}
 use Rattle.tables.proofs.Ranges.{k-between, k-rows}
+use Rattle.tables.proofs.Answers.{read-small}
 use Rattle.bodies.proofs.Known.{scale-placed}
-use Rattle.tables.proofs.Answers.{read-signed, read-signed-is}
 use borrow.Author.Needs.{needs}
 use Rattle.tables.proofs.k_at.Statement.{statement}
 use Rattle.tables.proofs.k_at.Tie as tie
 
+usual-step-requires : tie.Need-usual-step-requires
+usual-step-requires c κs = search needs
+
+size-by-requires : tie.Need-size-by-requires
+size-by-requires c κs = search (scale-placed, found-step, k-rows, needs)
+
+signed-requires : tie.Need-signed-requires
+unfolding kAt
+signed-requires c κs =
+    let p = c .before .before .before .before .pre in
+    read-small (c .size-by .ensures .0) (k-between _ (p .0 .passes) _ (p .1)) tt
+
+size-by-requires-2 : tie.Need-size-by-requires-2
+size-by-requires-2 c κs = search (scale-placed, place-step, k-rows, needs)
+
+signed-requires-2 : tie.Need-signed-requires-2
+unfolding kAt
+signed-requires-2 c κs =
+    let p = c .before .before .before .before .pre in
+    read-small (c .size-by2 .ensures .0) (k-between _ (p .0 .passes) _ (p .1)) tt
+
 returns : tie.Need-returns
 unfolding kAt kHalf
 returns c =
-    let read = c .before in
-    let p = read .before .before .pre in
-    let is = read-signed-is (read .size-at .ensures .0) (k-between _ (p .0 .passes) _ (p .1)) tt in
-    (is .0, is .1, read .size-at .ensures .1)
+    let p = c .before .before .before .before .before .pre in
+    let read = c .before .size-by .ensures in
+    let e = c .signed .ensures .0 ∙ read .0 in
+    (e, rw e (k-between _ (p .0 .passes) _ (p .1) .high), c .signed .ensures .1 ∙ read .1)
 
-size-at-requires : tie.Need-size-at-requires
-size-at-requires c κs = search (scale-placed, k-rows, needs)
-
-cast-t5 : tie.Need-cast-t5
-unfolding kAt
-cast-t5 c =
-    let read = c .before in
-    let p = read .before .before .pre in
-    read-signed (read .size-at .ensures .0) (k-between _ (p .0 .passes) _ (p .1)) tt
+returns-2 : tie.Need-returns-2
+unfolding kAt kHalf
+returns-2 c =
+    let p = c .before .before .before .before .before .pre in
+    let read = c .before .size-by2 .ensures in
+    let e = c .signed2 .ensures .0 ∙ read .0 in
+    (e, rw e (k-between _ (p .0 .passes) _ (p .1) .high), c .signed2 .ensures .1 ∙ read .1)
 
 pub k-at-spec : {M : Type 1} → statement M
-k-at-spec = tie.close (tie.spec size-at-requires cast-t5 returns)
+k-at-spec =
+    tie.close
+    (tie.spec
+    usual-step-requires
+    size-by-requires
+    signed-requires
+    returns
+    size-by-requires-2
+    signed-requires-2
+    returns-2)

@@ -1,5 +1,5 @@
 -- `tables::size_by` meets its contract. Assumes nothing.
-use Rattle.tables.proofs.Parts.{rows-two, body-long, column-inside, offset-inside, lent-sizes, value-of, half-of}
+use Rattle.tables.proofs.Parts.{rows-two, body-long, column-inside, step-some, step-small, step-fits, offset-inside, offset-fits, lent-sizes, value-is, half-is}
 use borrow.Author.Needs.{needs}
 use Rattle.tables.proofs.size_by.Statement.{statement}
 use Rattle.tables.proofs.size_by.Tie as tie
@@ -10,11 +10,17 @@ body-requires c κs = search needs
 width-of-requires : tie.Need-width-of-requires
 width-of-requires c κs = search needs
 
+cast-size-at : tie.Need-cast-size-at
+cast-size-at c = search step-fits
+
+cast-size-at-2 : tie.Need-cast-size-at-2
+cast-size-at-2 c = search offset-fits
+
 size-at-requires : tie.Need-size-at-requires
-size-at-requires c κs = search (rows-two, body-long, column-inside, offset-inside, lent-sizes, needs)
+size-at-requires c κs = search (rows-two, body-long, column-inside, step-some, step-small, offset-inside, lent-sizes, needs)
 
 returns : tie.Need-returns
-returns c = search (value-of, half-of)
+returns c = search (value-is, half-is)
 
 pub size-by-spec : {M : Type 1} → statement M
-size-by-spec = tie.close (tie.spec body-requires width-of-requires size-at-requires returns)
+size-by-spec = tie.close (tie.spec body-requires width-of-requires cast-size-at cast-size-at-2 size-at-requires returns)

@@ -1,5 +1,5 @@
 -- `tables::value_by` meets its contract. Assumes nothing.
-use Rattle.tables.proofs.Parts.{rows-two, body-long, column-inside, offset-inside, value-of, half-of}
+use Rattle.tables.proofs.Parts.{rows-two, body-long, column-inside, step-some, step-small, step-fits, offset-inside, offset-fits, value-is, half-is}
 use borrow.Author.Needs.{needs}
 use Rattle.tables.proofs.value_by.Statement.{statement}
 use Rattle.tables.proofs.value_by.Tie as tie
@@ -10,11 +10,17 @@ body-requires c κs = search needs
 width-of-requires : tie.Need-width-of-requires
 width-of-requires c κs = search needs
 
+cast-value-at : tie.Need-cast-value-at
+cast-value-at c = search step-fits
+
+cast-value-at-2 : tie.Need-cast-value-at-2
+cast-value-at-2 c = search offset-fits
+
 value-at-requires : tie.Need-value-at-requires
-value-at-requires c κs = search (rows-two, body-long, column-inside, offset-inside, needs)
+value-at-requires c κs = search (rows-two, body-long, column-inside, step-some, step-small, offset-inside, needs)
 
 returns : tie.Need-returns
-returns c = search (value-of, half-of)
+returns c = search (value-is, half-is)
 
 pub value-by-spec : {M : Type 1} → statement M
-value-by-spec = tie.close (tie.spec body-requires width-of-requires value-at-requires returns)
+value-by-spec = tie.close (tie.spec body-requires width-of-requires cast-value-at cast-value-at-2 value-at-requires returns)

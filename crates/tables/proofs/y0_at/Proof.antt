@@ -1,29 +1,29 @@
 -- `tables::y0_at` meets its contract. Assumes nothing.
+use mathlib.Core.Path.{_∙_}
 use Rattle.tables.specs.Figures.{y0At, y0Half}
-use Rattle.tables.proofs.Ranges.{minutes-most, y0-between, y0-rows}
+use Rattle.tables.proofs.Ranges.{minute-step, latitude-is, latitude-half-is, y0-between, y0-rows}
+use Rattle.tables.proofs.Answers.{read-small}
 use Rattle.bodies.proofs.Known.{latitude-placed}
-use Rattle.tables.proofs.Answers.{read-signed, read-signed-is}
 use borrow.Author.Needs.{needs}
 use Rattle.tables.proofs.y0_at.Statement.{statement}
 use Rattle.tables.proofs.y0_at.Tie as tie
 
+size-by-requires : tie.Need-size-by-requires
+size-by-requires c κs = search (latitude-placed, minute-step, y0-rows, needs)
+
+signed-requires : tie.Need-signed-requires
+unfolding y0At
+signed-requires c κs =
+    let p = c .before .before .pre in
+    read-small (c .size-by .ensures .0 ∙ latitude-is _ (p .0 .passes) 1 _) (y0-between _ (p .0 .passes) _ (p .1)) tt
+
 returns : tie.Need-returns
 unfolding y0At y0Half
 returns c =
-    let read = c .before in
-    let p = read .before .before .pre in
-    let is = read-signed-is (read .size-by .ensures .0) (y0-between _ (p .0 .passes) _ (p .1)) tt in
-    (is .0, is .1, read .size-by .ensures .1)
-
-size-by-requires : tie.Need-size-by-requires
-size-by-requires c κs = search (latitude-placed, minutes-most, y0-rows, needs)
-
-cast-t5 : tie.Need-cast-t5
-unfolding y0At
-cast-t5 c =
-    let read = c .before in
-    let p = read .before .before .pre in
-    read-signed (read .size-by .ensures .0) (y0-between _ (p .0 .passes) _ (p .1)) tt
+    let p = c .before .before .before .pre in
+    let read = c .before .size-by .ensures in
+    let e = c .signed .ensures .0 ∙ read .0 ∙ latitude-is _ (p .0 .passes) 1 _ in
+    (e, rw e (y0-between _ (p .0 .passes) _ (p .1) .high), c .signed .ensures .1 ∙ read .1 ∙ latitude-half-is _ (p .0 .passes) 1 _)
 
 pub y0-at-spec : {M : Type 1} → statement M
-y0-at-spec = tie.close (tie.spec size-by-requires cast-t5 returns)
+y0-at-spec = tie.close (tie.spec size-by-requires signed-requires returns)
