@@ -1,5 +1,5 @@
 -- The bounds that contracts ask of the figures that reach a step, in the sheet's units: no figure of a passing sheet passes them.
--- From H to q they are the ranges of the sheet. Those after are wider than today's sheet needs, so that they hold for the later forms of a sheet too,
+-- From H to q they are the ranges of the sheet. Most of those after are wider than today's sheet needs, so that they hold for the later forms of a sheet too,
 -- which may bring their own steps, leave out latitude rows, or hold mapping radii.
 use Prim.Native.Nat.{ℕ}
 

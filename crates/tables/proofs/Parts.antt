@@ -15,7 +15,7 @@ use Rattle.figures.specs.Ranges.{mostStep}
 use Rattle.figures.proofs.Holds.{held-size}
 use Rattle.words.specs.Words.{unsignedAt, wordAt}
 use Rattle.entries.specs.declared.Place.{Place}
-use Rattle.entries.specs.Layout.{lastKind, mostBytes, widthOf, leastRows, mostRows, usualStep}
+use Rattle.entries.specs.Layout.{lastKind, mostBytes, widthOf, leastRows, mostRows, usualStep, farthest}
 use Rattle.entries.specs.Entries.{rowsOf, stepOf, lastOf, bodyOf, Within}
 use Rattle.entries.proofs.ByKind.{by-kind}
 use Rattle.contents.specs.Contents.{contentsOf, Placed}
@@ -39,8 +39,8 @@ usual-some =
     (λ h. lit< tt)
     (λ h. lit< tt)
 
-usual-last : (kind : ℕ) → 1 ≤ kind → kind ≤ lastKind → (mostRows kind - 1) * usualStep kind < 4_294_967_296
-usual-last = by-kind (λ (k : ℕ). (mostRows k - 1) * usualStep k < 4_294_967_296) (lit< tt) (lit< tt) (lit< tt) (lit< tt) (lit< tt) (lit< tt)
+farthest-small : (kind : ℕ) → 1 ≤ kind → kind ≤ lastKind → farthest kind < 4_294_967_296
+farthest-small = by-kind (λ (k : ℕ). farthest k < 4_294_967_296) (lit< tt) (lit< tt) (lit< tt) (lit< tt) (lit< tt) (lit< tt)
 
 module _ (s : List ℕ) (z : contentsOf s .number ≡ 0) (kind : ℕ) (l : 1 ≤ kind) (h : kind ≤ lastKind) where
   pub step-most : stepOf s kind ≤ mostStep
@@ -54,7 +54,7 @@ module _ (s : List ℕ) (z : contentsOf s .number ≡ 0) (kind : ℕ) (l : 1 ≤
   unfolding lastOf
   last-small =
       let rows : rowsOf s kind - 1 ≤ mostRows kind - 1 = omega (arith, rows-most s z kind l h) in
-      rw (step-usual s z kind l h) (lt-of-le-of-lt (mul-le-mul-right (usualStep kind) rows) (usual-last kind l h))
+      rw (step-usual s z kind l h) (lt-of-le-of-lt (mul-le-mul-right (usualStep kind) rows) (farthest-small kind l h))
 
 -- ---- the place
 module _ (s : List ℕ) (kind : ℕ) (p : Place) (placed : Placed s kind p) where

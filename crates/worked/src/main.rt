@@ -81,9 +81,10 @@ fn show_latitude(s: &[u8], p: Places, t: u64)
 fn show_longitude(s: &[u8], p: Places, size: u64)
     requires { ⌜ KnownToPass (now s) p × Within (now s) longitude size ⌝ }
 {
+    let read = tables::longitude_at(s, p, size);
     print_size(b" q ", steps::q_of(size).value);
-    print_figure(b" b ", tables::b_at(s, p, size).value);
-    print_figure(b" c ", tables::c_at(s, p, size).value);
+    print_figure(b" b ", read.b.value);
+    print_figure(b" c ", read.c.value);
 }
 
 // The figures of the way forward, of a latitude and a longitude within the tables.
