@@ -1,22 +1,24 @@
--- A passing sheet's origin o, as it was read: each of its numbers is the sheet's, and small. Assumes nothing.
-use mathlib.Core.Path.{_≡_, refl}
+-- A passing sheet's origin o, as it was read: the bits of each of its numbers hold the sheet's. Assumes nothing.
+use mathlib.Core.Path.{_≡_}
 use mathlib.Core.List.{List}
-use Prim.Native.Nat.{ℕ, _≤_}
-use lib.IntN.{natAbs}
+use Prim.Native.Nat.{ℕ}
+use mir.Syntax.{w64}
+use mir.Val.{ofZ}
+use Rattle.figures.proofs.Holds.{Holds, held-by}
 use Rattle.bodies.specs.Check.{checkOf}
 use Rattle.tables.specs.declared.Origin.{Origin}
 use Rattle.tables.specs.Figures.{centralMeridian, falseEasting, firstLatitude, originOf}
 use Rattle.tables.proofs.Ranges.{central-size, easting-size, first-most}
 
 module _ (s : List ℕ) (z : checkOf s .number ≡ 0) (o : Origin) (e : o ≡ originOf s) where
-  pub origin-first : (o .«first_latitude» ≡ firstLatitude s) × (natAbs (o .«first_latitude») ≤ 324_000_000)
+  pub first-held : Holds w64 (ofZ w64 (o .«first_latitude»)) (firstLatitude s) 324_000_000
   unfolding originOf
-  origin-first = rw e (refl, first-most s z)
+  first-held = rw e (held-by w64 (firstLatitude s) (first-most s z) tt)
 
-  pub origin-central : (o .«central_meridian» ≡ centralMeridian s) × (natAbs (o .«central_meridian») ≤ 642_000_000)
+  pub central-held : Holds w64 (ofZ w64 (o .«central_meridian»)) (centralMeridian s) 642_000_000
   unfolding originOf
-  origin-central = rw e (refl, central-size s z .high)
+  central-held = rw e (held-by w64 (centralMeridian s) (central-size s z .high) tt)
 
-  pub origin-easting : (o .«false_easting» ≡ falseEasting s) × (natAbs (o .«false_easting») ≤ 100_000_000)
+  pub easting-held : Holds w64 (ofZ w64 (o .«false_easting»)) (falseEasting s) 100_000_000
   unfolding originOf
-  origin-easting = rw e (refl, easting-size s z .high)
+  easting-held = rw e (held-by w64 (falseEasting s) (easting-size s z .high) tt)
