@@ -29,13 +29,6 @@ module _ {z r v : ℤ} {k : ℕ} (h : SFits w32 z) (ok : mag r < 2 ^ 63) (e : (r
   pub point-less : Holds w64 (ofZ w64 (toZ w64 (ofZ w64 (toZ w32 (ofZ w32 z))) -ℤ toZ w64 (ofZ w64 r))) (z -ℤ v) (2_147_483_648 + k)
   point-less = difference (wide h) figure t
 
-module _ {z r v : ℤ} {k : ℕ} (h : SFits w32 z) (ok : mag r < 2 ^ 63) (e : (r ≡ v) × (natAbs r ≤ k)) (t : T (ltb (k + 2_147_483_648) (2 ^ 63))) where
-  pub less-point-fits : SFits w64 (toZ w64 (ofZ w64 r) -ℤ toZ w64 (ofZ w64 (toZ w32 (ofZ w32 z))))
-  less-point-fits = difference-fits (renamed (held-result w64 r ok (e .1)) (e .0)) (wide h) t
-
-  pub less-point : Holds w64 (ofZ w64 (toZ w64 (ofZ w64 r) -ℤ toZ w64 (ofZ w64 (toZ w32 (ofZ w32 z))))) (v -ℤ z) (k + 2_147_483_648)
-  less-point = difference (renamed (held-result w64 r ok (e .1)) (e .0)) (wide h) t
-
 -- a number as it is answered, with its bound
 pub answered : {n B : ℕ} {z : ℤ} → Holds w64 n z B → (toZ w64 n ≡ z) × (natAbs (toZ w64 n) ≤ B)
 answered h = (h .is, rw (h .is) (h .size))

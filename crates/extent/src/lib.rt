@@ -1,13 +1,15 @@
 // How far a sheet that passes the check reaches: where a point stands in its tables, and whether that is within their rows, as numbers 10 to 14 ask.
 use entries::Place;
 use entries::Places;
+use tables::Origin;
 ghost use mathlib.Core.Path.{_≡_};
 ghost use Prim.Native.Nat.{_≤_};
 ghost use lib.IntN.{natAbs};
 ghost use Rattle.entries.specs.Entries.{rowsOf, stepOf};
 ghost use Rattle.contents.specs.Contents.{Placed};
-ghost use Rattle.bodies.specs.Check.{KnownToPass};
+ghost use Rattle.bodies.specs.Check.{checkOf, KnownToPass};
 ghost use Rattle.reading.specs.Tables.{withinRows};
+ghost use Rattle.tables.specs.Figures.{originOf};
 ghost use Rattle.extent.specs.Extent.{fromFirst, latitudeKnown, lOf, sizeKnown, longitudeKnown, xPrime, eastingKnown, scaleKnown, northingKnown, reducedKnown};
 
 // Whether z lies from row 0 of the kind's body to its last row. `place` is that body's.
@@ -19,31 +21,31 @@ fn within(s: &[u8], place: Place, kind: usize, z: i64) -> bool
 }
 
 // The latitude's distance from row 0, in 0.001″.
-pub fn from_first(s: &[u8], p: Places, latitude: i32) -> i64
-    requires { ⌜ KnownToPass (now s) p ⌝ }
+pub fn from_first(s: &[u8], o: Origin, latitude: i32) -> i64
+    requires { ⌜ (checkOf (now s) .number ≡ 0) × (o ≡ originOf (now s)) ⌝ }
     ensures { λ r. ⌜ r ≡ fromFirst (now (s .entry)) latitude ⌝ }
 {
-    (latitude as i64) - tables::first_latitude(s, p)
+    (latitude as i64) - o.first_latitude
 }
 
 // Whether the latitude lies from the first row to the last.
-pub fn latitude_known(s: &[u8], p: Places, latitude: i32) -> bool
-    requires { ⌜ KnownToPass (now s) p ⌝ }
+pub fn latitude_known(s: &[u8], p: Places, o: Origin, latitude: i32) -> bool
+    requires { ⌜ KnownToPass (now s) p × (o ≡ originOf (now s)) ⌝ }
     ensures { λ r. ⌜ r ≡ latitudeKnown (now (s .entry)) latitude ⌝ }
 {
     reading::within_rows(
         p.latitude.rows,
         entries::ONE_MINUTE,
-        from_first(s, p, latitude),
+        from_first(s, o, latitude),
     )
 }
 
 // L, in 0.001″.
-pub fn l_of(s: &[u8], p: Places, longitude: i32) -> i64
-    requires { ⌜ KnownToPass (now s) p ⌝ }
+pub fn l_of(s: &[u8], o: Origin, longitude: i32) -> i64
+    requires { ⌜ (checkOf (now s) .number ≡ 0) × (o ≡ originOf (now s)) ⌝ }
     ensures { λ r. ⌜ (r ≡ lOf (now (s .entry)) longitude) × (natAbs r ≤ 2_789_483_648) ⌝ }
 {
-    tables::central_meridian(s, p) - (longitude as i64)
+    o.central_meridian - (longitude as i64)
 }
 
 // Whether a size of L is not above the last kind 3 row.
@@ -55,11 +57,11 @@ pub fn size_known(s: &[u8], p: Places, size: i64) -> bool
 }
 
 // Whether the longitude is one that there is, and its L not above the last kind 3 row.
-pub fn longitude_known(s: &[u8], p: Places, longitude: i32) -> bool
-    requires { ⌜ KnownToPass (now s) p ⌝ }
+pub fn longitude_known(s: &[u8], p: Places, o: Origin, longitude: i32) -> bool
+    requires { ⌜ KnownToPass (now s) p × (o ≡ originOf (now s)) ⌝ }
     ensures { λ r. ⌜ r ≡ longitudeKnown (now (s .entry)) longitude ⌝ }
 {
-    let size = figures::size(l_of(s, p, longitude));
+    let size = figures::size(l_of(s, o, longitude));
     (0 <= longitude) & (longitude <= 648_000_000) & size_known(s, p, size as i64)
 }
 

@@ -1,6 +1,7 @@
 // Geographic to plane, on a sheet known to pass, with its places in hand: 10, 11, or x and y.
 use entries::Places;
 use figures::Rounded;
+use tables::Origin;
 ghost use mathlib.Core.Path.{_≡_};
 ghost use mathlib.Core.Bool.{true};
 ghost use Prim.Native.Nat.{_≤_};
@@ -8,7 +9,7 @@ ghost use lib.IntN.{natAbs};
 ghost use Rattle.entries.specs.Layout.{latitude, longitude};
 ghost use Rattle.entries.specs.Entries.{Within};
 ghost use Rattle.bodies.specs.Check.{KnownToPass};
-ghost use Rattle.tables.specs.Figures.{bAt, bHalf, cAt, cHalf};
+ghost use Rattle.tables.specs.Figures.{originOf, bAt, bHalf, cAt, cHalf};
 ghost use Rattle.extent.specs.Extent.{latitudeKnown, longitudeKnown};
 ghost use Rattle.forward.specs.Forward.{xSize, xOf, xHalf, yOf, yHalf, planeAt, forwardOf};
 
@@ -35,14 +36,14 @@ fn x_size(s: &[u8], p: Places, t: u64, size: u64, b: Rounded) -> Rounded
 }
 
 // x, in 0.01 ft, with b read at the size of L.
-fn x_of(s: &[u8], p: Places, t: u64, l: i64, b: Rounded) -> Rounded
-    requires { ⌜ KnownToPass (now s) p × Within (now s) latitude t × Within (now s) longitude (natAbs l) × (b .value ≡ bAt (now s) (natAbs l)) × (b .half ≡ bHalf (now s) (natAbs l)) ⌝ }
+fn x_of(s: &[u8], p: Places, o: Origin, t: u64, l: i64, b: Rounded) -> Rounded
+    requires { ⌜ KnownToPass (now s) p × (o ≡ originOf (now s)) × Within (now s) latitude t × Within (now s) longitude (natAbs l) × (b .value ≡ bAt (now s) (natAbs l)) × (b .half ≡ bHalf (now s) (natAbs l)) ⌝ }
     ensures { λ r. ⌜ (r .value ≡ xOf (now (s .entry)) t l) × (natAbs (r .value) ≤ 161_204_000) × (r .half ≡ xHalf (now (s .entry)) t (natAbs l)) ⌝ }
 {
     let size = x_size(s, p, t, figures::size(l), b);
     let x = figures::with_sign(l, size.value);
     Rounded {
-        value: x + tables::false_easting(s, p),
+        value: x + o.false_easting,
         half: size.half,
     }
 }
@@ -63,16 +64,16 @@ fn y_of(s: &[u8], p: Places, t: u64, size: u64, c: Rounded) -> Rounded
 }
 
 // The point on the plane, of a latitude and a longitude within the tables. What is read at the size of L comes first: it is ready when H and a are.
-fn plane_at(s: &[u8], p: Places, latitude: i32, longitude: i32) -> Plane
-    requires { ⌜ KnownToPass (now s) p × (latitudeKnown (now s) latitude ≡ true) × (longitudeKnown (now s) longitude ≡ true) ⌝ }
+fn plane_at(s: &[u8], p: Places, o: Origin, latitude: i32, longitude: i32) -> Plane
+    requires { ⌜ KnownToPass (now s) p × (o ≡ originOf (now s)) × (latitudeKnown (now s) latitude ≡ true) × (longitudeKnown (now s) longitude ≡ true) ⌝ }
     ensures { λ r. ⌜ r ≡ planeAt (now (s .entry)) latitude longitude ⌝ }
 {
-    let t = extent::from_first(s, p, latitude) as u64;
-    let l = extent::l_of(s, p, longitude);
+    let t = extent::from_first(s, o, latitude) as u64;
+    let l = extent::l_of(s, o, longitude);
     let size = figures::size(l);
     let c = tables::c_at(s, p, size);
     let b = tables::b_at(s, p, size);
-    let x = x_of(s, p, t, l, b);
+    let x = x_of(s, p, o, t, l, b);
     let y = y_of(s, p, t, size, c);
     Plane {
         number: 0,
@@ -82,12 +83,12 @@ fn plane_at(s: &[u8], p: Places, latitude: i32, longitude: i32) -> Plane
     }
 }
 
-// Geographic to plane: 10, 11, or x and y.
-pub fn forward(s: &[u8], p: Places, latitude: i32, longitude: i32) -> Plane
-    requires { ⌜ KnownToPass (now s) p ⌝ }
+// Geographic to plane: 10, 11, or x and y, measured from the sheet's origin, which is read once for many points.
+pub fn forward_from(s: &[u8], p: Places, o: Origin, latitude: i32, longitude: i32) -> Plane
+    requires { ⌜ KnownToPass (now s) p × (o ≡ originOf (now s)) ⌝ }
     ensures { λ r. ⌜ r ≡ forwardOf (now (s .entry)) latitude longitude ⌝ }
 {
-    if !extent::latitude_known(s, p, latitude) {
+    if !extent::latitude_known(s, p, o, latitude) {
         return Plane {
             number: 10,
             x: 0,
@@ -95,7 +96,7 @@ pub fn forward(s: &[u8], p: Places, latitude: i32, longitude: i32) -> Plane
             half: false,
         };
     }
-    if !extent::longitude_known(s, p, longitude) {
+    if !extent::longitude_known(s, p, o, longitude) {
         return Plane {
             number: 11,
             x: 0,
@@ -103,5 +104,13 @@ pub fn forward(s: &[u8], p: Places, latitude: i32, longitude: i32) -> Plane
             half: false,
         };
     }
-    plane_at(s, p, latitude, longitude)
+    plane_at(s, p, o, latitude, longitude)
+}
+
+// Geographic to plane: 10, 11, or x and y.
+pub fn forward(s: &[u8], p: Places, latitude: i32, longitude: i32) -> Plane
+    requires { ⌜ KnownToPass (now s) p ⌝ }
+    ensures { λ r. ⌜ r ≡ forwardOf (now (s .entry)) latitude longitude ⌝ }
+{
+    forward_from(s, p, tables::origin_of(s, p), latitude, longitude)
 }

@@ -7,6 +7,7 @@ use lib.IntN.{ℤ, pos, natAbs, _*ℤ_}
 use Rattle.entries.specs.Layout.{zone, latitude, longitude, northing, easting, scale, widthOf, oneMinute}
 use Rattle.entries.specs.Entries.{bodyOf, stepOf}
 use Rattle.reading.specs.Tables.{column, valueAt, valueHalf}
+use Rattle.tables.specs.declared.Origin.{Origin}
 
 -- The figure in row i of a column of the kind.
 abbrev pub figureOf : List ℕ → ℕ → ℕ → ℕ → ℤ
@@ -38,6 +39,10 @@ falseEasting s = figureOf s zone 1 0
 -- The latitude of row 0, in 0.001″, from its minute.
 unfoldable pub firstLatitude : List ℕ → ℤ
 firstLatitude s = figureOf s latitude 0 0 *ℤ pos oneMinute
+
+-- What the sheet's points are measured from.
+unfoldable pub originOf : List ℕ → Origin
+originOf s = record { «first_latitude» = firstLatitude s; «central_meridian» = centralMeridian s; «false_easting» = falseEasting s }
 
 -- y0 in row i.
 unfoldable pub y0Of : List ℕ → ℕ → ℤ

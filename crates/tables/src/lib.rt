@@ -15,12 +15,19 @@ ghost use Rattle.contents.specs.Contents.{Placed};
 ghost use Rattle.bodies.specs.Check.{KnownToPass};
 ghost use Rattle.reading.specs.Tables.{NotNegative};
 ghost use Rattle.row_search.specs.Rows.{lastNotAbove};
-ghost use Rattle.tables.specs.Figures.{figureOf, figureAt, figureHalf, centralMeridian, falseEasting, firstLatitude, y0Of, y0At, y0Half, hAt, hHalf, vAt, vHalf, aAt, aHalf, bAt, bHalf, cAt, cHalf, pAt, pHalf, mAt, mHalf, dAt, dHalf, kAt, kHalf};
+ghost use Rattle.tables.specs.Figures.{figureOf, figureAt, figureHalf, centralMeridian, falseEasting, firstLatitude, originOf, y0Of, y0At, y0Half, hAt, hHalf, vAt, vHalf, aAt, aHalf, bAt, bHalf, cAt, cHalf, pAt, pHalf, mAt, mHalf, dAt, dHalf, kAt, kHalf};
 
 // A place among the latitude rows: so much past a row that has a next, in 0.001″, up to a whole minute.
 pub struct At {
     pub row: usize,
     pub past: u64,
+}
+
+// What a sheet's points are measured from: the latitude of row 0 and the central meridian, in 0.001″, and the false easting C, in 0.01 ft.
+pub struct Origin {
+    pub first_latitude: i64,
+    pub central_meridian: i64,
+    pub false_easting: i64,
 }
 
 // The figure in row i of a column of the kind, where it is not negative.
@@ -104,6 +111,20 @@ pub fn first_latitude(s: &[u8], p: Places) -> i64
     ensures { λ r. ⌜ (r ≡ firstLatitude (now (s .entry))) × (natAbs r ≤ 324_000_000) ⌝ }
 {
     figure_of(s, p.latitude, entries::LATITUDE, 0, 0) * (entries::ONE_MINUTE as i64)
+}
+
+// The sheet's origin, which is read once for many points.
+pub fn origin_of(s: &[u8], p: Places) -> Origin
+    requires { ⌜ KnownToPass (now s) p ⌝ }
+    ensures { λ r. ⌜ r ≡ originOf (now (s .entry)) ⌝ }
+{
+    let first = first_latitude(s, p);
+    let central = central_meridian(s, p);
+    Origin {
+        first_latitude: first,
+        central_meridian: central,
+        false_easting: false_easting(s, p),
+    }
 }
 
 // y0 in latitude row i, in 0.01 ft.

@@ -19,7 +19,7 @@ unfolding latitudeKnown
 returns c =
     let t : toZ w64 (ofZ w64 (c .before .from-first .result)) ≡ c .before .from-first .result = search needs in
     let north : toZ w32 (ofZ w32 (c .before .before .before .args .latitude)) ≡ c .before .before .before .args .latitude = search needs in
-    minutes-is _ _ (c .before .before .before .pre) _ _ _ (t ∙ c .before .from-first .ensures ∙ ap (fromFirst _) north) (c .within-rows .ensures)
+    minutes-is _ _ (c .before .before .before .pre .0) _ _ _ (t ∙ c .before .from-first .ensures ∙ ap (fromFirst _) north) (c .within-rows .ensures)
 
 pub latitude-known-spec : {M : Type 1} → statement M
 latitude-known-spec = tie.close (tie.spec from-first-requires within-rows-requires returns)

@@ -41,35 +41,35 @@ returns c =
     let worked = c .before .before .before .before .before .before in
     let start = worked .before .before .before .before .before .before .before .before in
     let distance = worked .before .before .before .before .before .before in
-    let t = size-is (distance .from-first .ok) (distance-is distance) (latitude-reach _ _ (start .pre .1)) in
+    let t = size-is (distance .from-first .ok) (distance-is distance) (latitude-reach _ _ (start .pre .2)) in
     let x = worked .before .x-of .ensures in
     let y = worked .y-of .ensures in
     plane-worked _ _ _ t (l-is (worked .before .before .before .before .before)) (worked .before .before .before .before .size .ensures)
     (cast (x-held worked) tt .is) (x .0) (cast (y-held worked) tt .is) (y .0) (x .2) (y .2)
 
-cast-t13 : tie.Need-cast-t13
-cast-t13 c = cast-fits (x-held (c .before .before)) tt
-
 cast-t14 : tie.Need-cast-t14
-cast-t14 c = cast-fits (y-held (c .before .before .before .before)) tt
+cast-t14 c = cast-fits (x-held (c .before .before)) tt
+
+cast-t15 : tie.Need-cast-t15
+cast-t15 c = cast-fits (y-held (c .before .before .before .before)) tt
 
 from-first-requires : tie.Need-from-first-requires
-from-first-requires c κs = search needs
+from-first-requires c κs = (c .before .pre .0 .passes, c .before .pre .1)
 
 cast-t : tie.Need-cast-t
 cast-t c =
     let p = c .before .before .pre in
-    size-fits (c .from-first .ok) (distance-is c) (latitude-small _ (p .0 .passes) _ (p .1)) tt
+    size-fits (c .from-first .ok) (distance-is c) (latitude-small _ (p .0 .passes) _ (p .2)) tt
 
 l-of-requires : tie.Need-l-of-requires
-l-of-requires c κs = search needs
+l-of-requires c κs = let p = c .before .before .pre in (p .0 .passes, p .1)
 
 size-requires : tie.Need-size-requires
 size-requires c κs = bits-below (c .l-of .result) (c .l-of .ok) (c .l-of .ensures .1) tt
 
 -- the size of L is within its table
 size-reach : (c : tie.After-size) → Within (now (c .before .before .before .before .args .s)) longitude (c .size .result)
-size-reach c = rw (c .size .ensures, l-is (c .before)) (longitude-within _ _ (c .before .before .before .before .pre .2))
+size-reach c = rw (c .size .ensures, l-is (c .before)) (longitude-within _ _ (c .before .before .before .before .pre .3))
 
 c-at-requires : tie.Need-c-at-requires
 c-at-requires c κs =
@@ -85,17 +85,17 @@ x-of-requires : tie.Need-x-of-requires
 x-of-requires c κs =
     let p = c .before .before .before .before .before .before .pre in
     let distance = c .before .before .before .before in
-    let t = size-is (distance .from-first .ok) (distance-is distance) (latitude-reach _ _ (p .1)) in
+    let t = size-is (distance .from-first .ok) (distance-is distance) (latitude-reach _ _ (p .2)) in
     let reach = size-reach (c .before .before) in
     let size = c .before .before .size .ensures in
-    (p .0, rw t (latitude-within _ (p .0 .passes) _ (p .1)), rw (← size) reach, c .b-at .ensures .0 ∙ ap (bAt _) (omega (arith, size)), c .b-at .ensures .2 ∙ ap (bHalf _) (omega (arith, size)))
+    (p .0, p .1, rw t (latitude-within _ (p .0 .passes) _ (p .2)), rw (← size) reach, c .b-at .ensures .0 ∙ ap (bAt _) (omega (arith, size)), c .b-at .ensures .2 ∙ ap (bHalf _) (omega (arith, size)))
 
 y-of-requires : tie.Need-y-of-requires
 y-of-requires c κs =
     let p = c .before .before .before .before .before .before .before .pre in
     let distance = c .before .before .before .before .before in
-    let t = size-is (distance .from-first .ok) (distance-is distance) (latitude-reach _ _ (p .1)) in
-    (p .0, rw t (latitude-within _ (p .0 .passes) _ (p .1)), size-reach (c .before .before .before), c .before .before .c-at .ensures .0, c .before .before .c-at .ensures .2)
+    let t = size-is (distance .from-first .ok) (distance-is distance) (latitude-reach _ _ (p .2)) in
+    (p .0, rw t (latitude-within _ (p .0 .passes) _ (p .2)), size-reach (c .before .before .before), c .before .before .c-at .ensures .0, c .before .before .c-at .ensures .2)
 
 pub plane-at-spec : {M : Type 1} → statement M
 plane-at-spec =
@@ -109,6 +109,6 @@ plane-at-spec =
     b-at-requires
     x-of-requires
     y-of-requires
-    cast-t13
     cast-t14
+    cast-t15
     returns)
