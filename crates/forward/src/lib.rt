@@ -71,10 +71,9 @@ fn plane_at(s: &[u8], p: Places, o: Origin, latitude: i32, longitude: i32) -> Pl
     let t = extent::from_first(s, o, latitude) as u64;
     let l = extent::l_of(s, o, longitude);
     let size = figures::size(l);
-    let c = tables::c_at(s, p, size);
-    let b = tables::b_at(s, p, size);
-    let x = x_of(s, p, o, t, l, b);
-    let y = y_of(s, p, t, size, c);
+    let read = tables::longitude_at(s, p, size);
+    let x = x_of(s, p, o, t, l, read.b);
+    let y = y_of(s, p, t, size, read.c);
     Plane {
         number: 0,
         x: x.value as i32,

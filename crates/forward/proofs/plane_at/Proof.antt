@@ -39,19 +39,19 @@ y-held c = record { is = search needs; size = c .y-of .ensures .1 }
 returns : tie.Need-returns
 returns c =
     let worked = c .before .before .before .before .before .before in
-    let start = worked .before .before .before .before .before .before .before .before in
-    let distance = worked .before .before .before .before .before .before in
+    let start = worked .before .before .before .before .before .before .before in
+    let distance = worked .before .before .before .before .before in
     let t = size-is (distance .from-first .ok) (distance-is distance) (latitude-reach _ _ (start .pre .2)) in
     let x = worked .before .x-of .ensures in
     let y = worked .y-of .ensures in
-    plane-worked _ _ _ t (l-is (worked .before .before .before .before .before)) (worked .before .before .before .before .size .ensures)
+    plane-worked _ _ _ t (l-is (worked .before .before .before .before)) (worked .before .before .before .size .ensures)
     (cast (x-held worked) tt .is) (x .0) (cast (y-held worked) tt .is) (y .0) (x .2) (y .2)
 
-cast-t14 : tie.Need-cast-t14
-cast-t14 c = cast-fits (x-held (c .before .before)) tt
+cast-t13 : tie.Need-cast-t13
+cast-t13 c = cast-fits (x-held (c .before .before)) tt
 
-cast-t15 : tie.Need-cast-t15
-cast-t15 c = cast-fits (y-held (c .before .before .before .before)) tt
+cast-t14 : tie.Need-cast-t14
+cast-t14 c = cast-fits (y-held (c .before .before .before .before)) tt
 
 from-first-requires : tie.Need-from-first-requires
 from-first-requires c κs = (c .before .pre .0 .passes, c .before .pre .1)
@@ -71,31 +71,27 @@ size-requires c κs = bits-below (c .l-of .result) (c .l-of .ok) (c .l-of .ensur
 size-reach : (c : tie.After-size) → Within (now (c .before .before .before .before .args .s)) longitude (c .size .result)
 size-reach c = rw (c .size .ensures, l-is (c .before)) (longitude-within _ _ (c .before .before .before .before .pre .3))
 
-c-at-requires : tie.Need-c-at-requires
-c-at-requires c κs =
+longitude-at-requires : tie.Need-longitude-at-requires
+longitude-at-requires c κs =
     let p = c .before .before .before .before .pre in
     (p .0, size-reach c)
 
-b-at-requires : tie.Need-b-at-requires
-b-at-requires c κs =
-    let p = c .before .before .before .before .before .pre in
-    (p .0, size-reach (c .before))
-
 x-of-requires : tie.Need-x-of-requires
 x-of-requires c κs =
-    let p = c .before .before .before .before .before .before .pre in
-    let distance = c .before .before .before .before in
+    let p = c .before .before .before .before .before .pre in
+    let distance = c .before .before .before in
     let t = size-is (distance .from-first .ok) (distance-is distance) (latitude-reach _ _ (p .2)) in
-    let reach = size-reach (c .before .before) in
-    let size = c .before .before .size .ensures in
-    (p .0, p .1, rw t (latitude-within _ (p .0 .passes) _ (p .2)), rw (← size) reach, c .b-at .ensures .0 ∙ ap (bAt _) (omega (arith, size)), c .b-at .ensures .2 ∙ ap (bHalf _) (omega (arith, size)))
+    let size = c .before .size .ensures in
+    let b = c .longitude-at .ensures in
+    (p .0, p .1, rw t (latitude-within _ (p .0 .passes) _ (p .2)), rw (← size) (size-reach (c .before)), b .0 ∙ ap (bAt _) (omega (arith, size)), b .2 ∙ ap (bHalf _) (omega (arith, size)))
 
 y-of-requires : tie.Need-y-of-requires
 y-of-requires c κs =
-    let p = c .before .before .before .before .before .before .before .pre in
-    let distance = c .before .before .before .before .before in
+    let p = c .before .before .before .before .before .before .pre in
+    let distance = c .before .before .before .before in
     let t = size-is (distance .from-first .ok) (distance-is distance) (latitude-reach _ _ (p .2)) in
-    (p .0, rw t (latitude-within _ (p .0 .passes) _ (p .2)), size-reach (c .before .before .before), c .before .before .c-at .ensures .0, c .before .before .c-at .ensures .2)
+    let read = c .before .longitude-at .ensures in
+    (p .0, rw t (latitude-within _ (p .0 .passes) _ (p .2)), size-reach (c .before .before), read .3, read .5)
 
 pub plane-at-spec : {M : Type 1} → statement M
 plane-at-spec =
@@ -105,10 +101,9 @@ plane-at-spec =
     cast-t
     l-of-requires
     size-requires
-    c-at-requires
-    b-at-requires
+    longitude-at-requires
     x-of-requires
     y-of-requires
+    cast-t13
     cast-t14
-    cast-t15
     returns)
