@@ -1,6 +1,7 @@
-// Many points at once, geographic to plane, over lent memory: pairs of latitude and longitude are read, three words a point are written. The sheet is checked once and
-// its places are worked once.
+// Many points at once, geographic to plane, over lent memory: pairs of latitude and longitude are read, three words a point are written. The sheet is checked once, and
+// its places and its origin are worked once.
 use entries::Places;
+use tables::Origin;
 ghost use mathlib.Core.Path.{_≡_};
 ghost use mathlib.Core.Bool.{true};
 ghost use mathlib.Core.List.{_∷_, []};
@@ -9,6 +10,7 @@ ghost use lib.IntN.{pos};
 ghost use lib.ListN.{length};
 ghost use lib.Seq.{sets};
 ghost use Rattle.bodies.specs.Check.{KnownToPass};
+ghost use Rattle.tables.specs.Figures.{originOf};
 ghost use Rattle.batch.specs.Batch.{oneIfAnswered, pointAt, wordsOf, pairs, answered, afterPairs, taken, batchOf, answersOf};
 
 // A batch's answer: its number, and the count of its points with number 0.
@@ -44,25 +46,27 @@ fn put(answers: &mut [i32], at: usize, number: u32, x: i32, y: i32) -> u32
 }
 
 // Point i, answered at its place; 1 where its number is 0, else 0.
-fn answer_one(s: &[u8], p: Places, points: &[i32], answers: &mut [i32], i: usize) -> u32
-    requires { ⌜ KnownToPass (now s) p × (2 * i + 1 < length (now points)) × (3 * i + 3 ≤ length (now answers)) ⌝ }
+fn answer_one(s: &[u8], p: Places, o: Origin, points: &[i32], answers: &mut [i32], i: usize) -> u32
+    requires { ⌜ KnownToPass (now s) p × (o ≡ originOf (now s)) × (2 * i + 1 < length (now points)) × (3 * i + 3 ≤ length (now answers)) ⌝ }
     ensures { λ n. ⌜ (n ≡ oneIfAnswered (pointAt (now (s .entry)) (now (points .entry)) i .number)) × (n ≤ 1) × (now (answers .exit) ≡ sets (now (answers .entry)) (3 * i) (wordsOf (pointAt (now (s .entry)) (now (points .entry)) i))) ⌝ }
 {
-    let r = forward::forward(s, p, points[2 * i], points[2 * i + 1]);
+    let r = forward::forward_from(s, p, o, points[2 * i], points[2 * i + 1]);
     put(answers, 3 * i, r.number, r.x, r.y)
 }
 
-// Every point, answered in turn; how many have number 0.
+// Every point, answered in turn; how many have number 0. The origin is read before the loop: the compiler cannot move the reading out of it, since
+// the answers written might be the sheet's memory.
 fn answer_all(s: &[u8], p: Places, points: &[i32], answers: &mut [i32]) -> u32
     requires { ⌜ KnownToPass (now s) p × (taken (length (now points)) (length (now answers)) ≡ true) ⌝ }
     ensures count { λ n. ⌜ n ≡ answered (now (s .entry)) (now (points .entry)) (pairs (now (points .entry))) ⌝ }
     ensures memory { λ _. ⌜ now (answers .exit) ≡ afterPairs (now (s .entry)) (now (points .entry)) (pairs (now (points .entry))) (now (answers .entry)) ⌝ }
 {
+    let o = tables::origin_of(s, p);
     let n = points.len() / 2;
     let mut count: u32 = 0;
     let mut i = 0;
     while i < n {
-        count += answer_one(s, p, points, answers, i);
+        count += answer_one(s, p, o, points, answers, i);
         i += 1;
     }
     count

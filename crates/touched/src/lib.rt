@@ -46,10 +46,11 @@ fn may_move_plane(s: &[u8], p: Places, minute: i32, latitude: i32, longitude: i3
     requires { ⌜ KnownToPass (now s) p ⌝ }
     ensures { λ r. ⌜ r ≡ forwardTouched (now (s .entry)) minute latitude longitude ⌝ }
 {
-    if !extent::latitude_known(s, p, latitude) {
+    let o = tables::origin_of(s, p);
+    if !extent::latitude_known(s, p, o, latitude) {
         return false;
     }
-    if !extent::longitude_known(s, p, longitude) {
+    if !extent::longitude_known(s, p, o, longitude) {
         return false;
     }
     near_row(minute, latitude)

@@ -91,8 +91,9 @@ fn show_longitude(s: &[u8], p: Places, size: u64)
 fn show_point(s: &[u8], p: Places, latitude: i32, longitude: i32)
     requires { ⌜ KnownToPass (now s) p × (latitudeKnown (now s) latitude ≡ true) × (longitudeKnown (now s) longitude ≡ true) ⌝ }
 {
-    let t = extent::from_first(s, p, latitude) as u64;
-    let l = extent::l_of(s, p, longitude);
+    let o = tables::origin_of(s, p);
+    let t = extent::from_first(s, o, latitude) as u64;
+    let l = extent::l_of(s, o, longitude);
     show_latitude(s, p, t);
     print_figure(b" L ", l);
     show_longitude(s, p, figures::size(l));
@@ -105,10 +106,11 @@ fn forward(s: &[u8], p: Places, latitude: i32, longitude: i32)
 {
     let r = convert::geographic_to_plane(s, latitude, longitude);
     print_line(b"G", latitude, longitude, r.number, r.x, r.y);
-    if !extent::latitude_known(s, p, latitude) {
+    let o = tables::origin_of(s, p);
+    if !extent::latitude_known(s, p, o, latitude) {
         return;
     }
-    if !extent::longitude_known(s, p, longitude) {
+    if !extent::longitude_known(s, p, o, longitude) {
         return;
     }
     show_point(s, p, latitude, longitude);

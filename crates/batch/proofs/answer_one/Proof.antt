@@ -14,35 +14,35 @@ use borrow.Author.Needs.{needs}
 use Rattle.batch.proofs.answer_one.Statement.{statement}
 use Rattle.batch.proofs.answer_one.Tie as tie
 
-mul-forward : tie.Need-mul-forward
-mul-forward c = search needs
+mul-forward-from : tie.Need-mul-forward-from
+mul-forward-from c = search needs
 
-mul-forward-2 : tie.Need-mul-forward-2
-mul-forward-2 c = search needs
+mul-forward-from-2 : tie.Need-mul-forward-from-2
+mul-forward-from-2 c = search needs
 
-shared-slice-copy-out-forward : tie.Need-shared-slice-copy-out-forward
-shared-slice-copy-out-forward c = search needs
+shared-slice-copy-out-forward-from : tie.Need-shared-slice-copy-out-forward-from
+shared-slice-copy-out-forward-from c = search needs
 
-mul-forward-3 : tie.Need-mul-forward-3
-mul-forward-3 c = search needs
+mul-forward-from-3 : tie.Need-mul-forward-from-3
+mul-forward-from-3 c = search needs
 
-add-forward : tie.Need-add-forward
-add-forward c = search needs
+add-forward-from : tie.Need-add-forward-from
+add-forward-from c = search needs
 
-mul-forward-4 : tie.Need-mul-forward-4
-mul-forward-4 c = search needs
+mul-forward-from-4 : tie.Need-mul-forward-from-4
+mul-forward-from-4 c = search needs
 
-shared-slice-copy-out-forward-2 : tie.Need-shared-slice-copy-out-forward-2
-shared-slice-copy-out-forward-2 c = search needs
+shared-slice-copy-out-forward-from-2 : tie.Need-shared-slice-copy-out-forward-from-2
+shared-slice-copy-out-forward-from-2 c = search needs
 
-forward-requires : tie.Need-forward-requires
-forward-requires c κs = search needs
+forward-from-requires : tie.Need-forward-from-requires
+forward-from-requires c κs = search needs
 
 mul-put : tie.Need-mul-put
 mul-put c = search needs
 
 put-requires : tie.Need-put-requires
-put-requires c κs = (omega (arith, c .before .before .before .before .before .before .before .pre .2), rw (c .before .before .before .forward .ensures) (number-small _ _ _))
+put-requires c κs = (omega (arith, c .before .before .before .before .before .before .before .pre .3), rw (c .before .before .before .forward-from .ensures) (number-small _ _ _))
 
 same-length : tie.Need-same-length
 same-length c = search needs
@@ -50,27 +50,27 @@ same-length c = search needs
 returns : tie.Need-returns
 returns c =
     let p = c .before .before .before .before .before in
-    let r = p .forward .result in
+    let r = p .forward-from .result in
     let a = p .before .before .before .before .args in
     let x : toZ w32 (ofZ w32 (r .x)) ≡ r .x = search needs in
     let y : toZ w32 (ofZ w32 (r .y)) ≡ r .y = search needs in
     let u : toZ w32 (ofZ w32 (getD (now (a .points)) (2 * a .i) (pos 0))) ≡ getD (now (a .points)) (2 * a .i) (pos 0) = search needs in
     let v : toZ w32 (ofZ w32 (getD (now (a .points)) (2 * a .i + 1) (pos 0))) ≡ getD (now (a .points)) (2 * a .i + 1) (pos 0) = search needs in
-    let h : r ≡ pointAt (now (a .s)) (now (a .points)) (a .i) = forward-passes _ _ _ r (p .before .before .before .before .pre .0 .passes) (rw (u, v) at (p .forward .ensures)) in
+    let h : r ≡ pointAt (now (a .s)) (now (a .points)) (a .i) = forward-passes _ _ _ r (p .before .before .before .before .pre .0 .passes) (rw (u, v) at (p .forward-from .ensures)) in
     (rw (← h) (c .before .put .ensures .0), c .before .put .ensures .1, rw (← h) (rw (x, y) at (c .before .put .ensures .2)))
 
 pub answer-one-spec : {M : Type 1} → statement M
 answer-one-spec =
     tie.close
     (tie.spec
-    mul-forward
-    mul-forward-2
-    shared-slice-copy-out-forward
-    mul-forward-3
-    add-forward
-    mul-forward-4
-    shared-slice-copy-out-forward-2
-    forward-requires
+    mul-forward-from
+    mul-forward-from-2
+    shared-slice-copy-out-forward-from
+    mul-forward-from-3
+    add-forward-from
+    mul-forward-from-4
+    shared-slice-copy-out-forward-from-2
+    forward-from-requires
     mul-put
     put-requires
     same-length

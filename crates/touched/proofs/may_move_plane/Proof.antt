@@ -15,12 +15,12 @@ use Rattle.touched.proofs.may_move_plane.Tie as tie
 north-is : (c : tie.Start) → toZ w32 (ofZ w32 (c .args .latitude)) ≡ c .args .latitude
 north-is c = search needs
 
-latitude-is : (c : tie.After-latitude-known) → let args = c .before .before .args in c .latitude-known .result ≡ latitudeKnown (now (args .s)) (args .latitude)
-latitude-is c = c .latitude-known .ensures ∙ ap (latitudeKnown _) (north-is (c .before .before))
+latitude-is : (c : tie.After-latitude-known) → let args = c .before .before .before .args in c .latitude-known .result ≡ latitudeKnown (now (args .s)) (args .latitude)
+latitude-is c = c .latitude-known .ensures ∙ ap (latitudeKnown _) (north-is (c .before .before .before))
 
-longitude-is : (c : tie.After-longitude-known) → let args = c .before .before .before .before .args in c .longitude-known .result ≡ longitudeKnown (now (args .s)) (args .longitude)
+longitude-is : (c : tie.After-longitude-known) → let args = c .before .before .before .before .before .args in c .longitude-known .result ≡ longitudeKnown (now (args .s)) (args .longitude)
 longitude-is c =
-    let args = c .before .before .before .before .args in
+    let args = c .before .before .before .before .before .args in
     let same : toZ w32 (ofZ w32 (args .longitude)) ≡ args .longitude = search needs in
     c .longitude-known .ensures ∙ ap (longitudeKnown _) same
 
@@ -35,10 +35,13 @@ returns-2 c = go _ _ _ _ _ (latitude-is (c .before .before .before)) (c .before 
 returns-3 : tie.Need-returns-3
 unfolding forwardTouched
 returns-3 c =
-    let start = c .before .before .before .before .before .before in
+    let start = c .before .before .before .before .before .before .before in
     let minute : toZ w32 (ofZ w32 (start .args .minute)) ≡ start .args .minute = search needs in
     go _ _ _ _ _ (latitude-is (c .before .before .before .before)) (c .before .before .before .if1 .left)
     (go _ _ _ _ _ (longitude-is (c .before .before)) (c .before .if2 .left) (c .near-row .ensures ∙ both-same nearRow minute (north-is start)))
+
+origin-of-requires : tie.Need-origin-of-requires
+origin-of-requires c κs = search needs
 
 latitude-known-requires : tie.Need-latitude-known-requires
 latitude-known-requires c κs = search needs
@@ -53,6 +56,7 @@ pub may-move-plane-spec : {M : Type 1} → statement M
 may-move-plane-spec =
     tie.close
     (tie.spec
+    origin-of-requires
     latitude-known-requires
     returns
     longitude-known-requires

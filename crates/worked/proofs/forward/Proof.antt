@@ -22,6 +22,9 @@ slice-aggregate-print-line c = search needs
 print-line-requires : tie.Need-print-line-requires
 print-line-requires c κs = search needs
 
+origin-of-requires : tie.Need-origin-of-requires
+origin-of-requires c κs = search needs
+
 latitude-known-requires : tie.Need-latitude-known-requires
 latitude-known-requires c κs = search needs
 
@@ -30,7 +33,7 @@ longitude-known-requires c κs = search needs
 
 show-point-requires : tie.Need-show-point-requires
 show-point-requires c κs =
-    let p = c .before .before .before .before .before .before .before .before .before .before .pre in
+    let p = c .before .before .before .before .before .before .before .before .before .before .before .pre in
     (p, kept _ _ (c .before .before .before .latitude-known .ensures) (c .before .before .if1 .left), kept _ _ (c .before .longitude-known .ensures) (c .if2 .left))
 
 pub forward-spec : {M : Type 1} → statement M
@@ -40,6 +43,7 @@ forward-spec =
     geographic-to-plane-requires
     slice-aggregate-print-line
     print-line-requires
+    origin-of-requires
     latitude-known-requires
     returns
     longitude-known-requires

@@ -12,33 +12,36 @@ use Rattle.worked.proofs.show_point.Statement.{statement}
 use Rattle.worked.proofs.show_point.Tie as tie
 
 -- the latitude's distance from row 0, and L, as they were worked
-distance-is : (c : tie.After-from-first) → c .from-first .result ≡ fromFirst (now (c .before .before .args .s)) (c .before .before .args .latitude)
+distance-is : (c : tie.After-from-first) → c .from-first .result ≡ fromFirst (now (c .before .before .before .args .s)) (c .before .before .before .args .latitude)
 distance-is c =
-    let north : toZ w32 (ofZ w32 (c .before .before .args .latitude)) ≡ c .before .before .args .latitude = search needs in
+    let north : toZ w32 (ofZ w32 (c .before .before .before .args .latitude)) ≡ c .before .before .before .args .latitude = search needs in
     c .from-first .ensures ∙ ap (fromFirst _) north
 
-l-is : (c : tie.After-l-of) → toZ w64 (ofZ w64 (c .l-of .result)) ≡ lOf (now (c .before .before .before .args .s)) (c .before .before .before .args .longitude)
+l-is : (c : tie.After-l-of) → toZ w64 (ofZ w64 (c .l-of .result)) ≡ lOf (now (c .before .before .before .before .args .s)) (c .before .before .before .before .args .longitude)
 l-is c =
-    let west : toZ w32 (ofZ w32 (c .before .before .before .args .longitude)) ≡ c .before .before .before .args .longitude = search needs in
+    let west : toZ w32 (ofZ w32 (c .before .before .before .before .args .longitude)) ≡ c .before .before .before .before .args .longitude = search needs in
     bits-is (c .l-of .ok) ∙ c .l-of .ensures .0 ∙ ap (lOf _) west
 
 returns : tie.Need-returns
 returns c = search needs
 
+origin-of-requires : tie.Need-origin-of-requires
+origin-of-requires c κs = search needs
+
 from-first-requires : tie.Need-from-first-requires
-from-first-requires c κs = search needs
+from-first-requires c κs = (c .before .before .pre .0 .passes, c .origin-of .ensures)
 
 cast-t : tie.Need-cast-t
 cast-t c =
-    let p = c .before .before .pre in
+    let p = c .before .before .before .pre in
     size-fits (c .from-first .ok) (distance-is c) (latitude-small _ (p .0 .passes) _ (p .1)) tt
 
 l-of-requires : tie.Need-l-of-requires
-l-of-requires c κs = search needs
+l-of-requires c κs = (c .before .before .before .pre .0 .passes, c .before .origin-of .ensures)
 
 show-latitude-requires : tie.Need-show-latitude-requires
 show-latitude-requires c κs =
-    let p = c .before .before .before .pre in
+    let p = c .before .before .before .before .pre in
     let t = size-is (c .before .from-first .ok) (distance-is (c .before)) (latitude-reach _ _ (p .1)) in
     (p .0, rw t (latitude-within _ (p .0 .passes) _ (p .1)))
 
@@ -53,7 +56,7 @@ size-requires c κs = let l = c .before .before .before .l-of in bits-below (l .
 
 show-longitude-requires : tie.Need-show-longitude-requires
 show-longitude-requires c κs =
-    let p = c .before .before .before .before .before .before .before .pre in
+    let p = c .before .before .before .before .before .before .before .before .pre in
     (p .0, rw (c .size .ensures, l-is (c .before .before .before .before)) (longitude-within _ _ (p .2)))
 
 slice-aggregate-print : tie.Need-slice-aggregate-print
@@ -66,6 +69,7 @@ pub show-point-spec : {M : Type 1} → statement M
 show-point-spec =
     tie.close
     (tie.spec
+    origin-of-requires
     from-first-requires
     cast-t
     l-of-requires
