@@ -8,11 +8,14 @@ use Rattle.worked.proofs.show_longitude.Tie as tie
 returns : tie.Need-returns
 returns c = search needs
 
+longitude-at-requires : tie.Need-longitude-at-requires
+longitude-at-requires c κs = search needs
+
 slice-aggregate-print-size : tie.Need-slice-aggregate-print-size
 slice-aggregate-print-size c = search needs
 
 q-of-requires : tie.Need-q-of-requires
-q-of-requires c κs = let p = c .before .before .pre in le-trans (p .1 .most) (longitude-span _ (p .0 .passes))
+q-of-requires c κs = let p = c .before .before .before .pre in le-trans (p .1 .most) (longitude-span _ (p .0 .passes))
 
 print-size-requires : tie.Need-print-size-requires
 print-size-requires c κs = search needs
@@ -20,17 +23,11 @@ print-size-requires c κs = search needs
 slice-aggregate-print-figure : tie.Need-slice-aggregate-print-figure
 slice-aggregate-print-figure c = search needs
 
-b-at-requires : tie.Need-b-at-requires
-b-at-requires c κs = search needs
-
 print-figure-requires : tie.Need-print-figure-requires
 print-figure-requires c κs = search needs
 
 slice-aggregate-print-figure-2 : tie.Need-slice-aggregate-print-figure-2
 slice-aggregate-print-figure-2 c = search needs
-
-c-at-requires : tie.Need-c-at-requires
-c-at-requires c κs = search needs
 
 print-figure-requires-2 : tie.Need-print-figure-requires-2
 print-figure-requires-2 c κs = search needs
@@ -39,13 +36,12 @@ pub show-longitude-spec : {M : Type 1} → statement M
 show-longitude-spec =
     tie.close
     (tie.spec
+    longitude-at-requires
     slice-aggregate-print-size
     q-of-requires
     print-size-requires
     slice-aggregate-print-figure
-    b-at-requires
     print-figure-requires
     slice-aggregate-print-figure-2
-    c-at-requires
     print-figure-requires-2
     returns)
