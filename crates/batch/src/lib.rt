@@ -1,5 +1,5 @@
-// Many points at once, geographic to plane, over lent memory: pairs of latitude and longitude are read, three words a point are written. The sheet is checked once, and
-// its places and its origin are worked once.
+// Many points at once, geographic to plane, over lent memory: pairs of latitude and longitude are read, three words a point are written. The sheet is checked once, its
+// places are worked once, and its origin is read once.
 use entries::Places;
 use tables::Origin;
 ghost use mathlib.Core.Path.{_≡_};
