@@ -53,6 +53,7 @@ fn with_next(k: usize, n: usize) -> usize
 }
 
 // The value of column c of n rows at an offset from row 0. The last row is read as a whole step past the one before it, so that there is always a next.
+// Step and offset have 32 bits, as a word has: so products with a word are narrow ones, which some processors work faster.
 pub fn value_at(b: &[u8], w: usize, c: usize, n: usize, step: u32, offset: u32) -> Rounded
     requires { ⌜ (2 ≤ n) × (4 * (w * n) ≤ length (now b)) × (c < w) × (0 < step) × (step ≤ mostStep) × (offset ≤ (n - 1) * step) ⌝ }
     ensures { λ r. ⌜ (r .value ≡ valueAt (column (now (b .entry)) w c) step offset) × (r .half ≡ valueHalf (column (now (b .entry)) w c) step offset) ⌝ }
