@@ -6,6 +6,7 @@ pub mod Tests
 pub mod Holds
 pub mod Bits
 pub mod Rounding
+pub mod Apart
 pub mod Halves
 pub mod Interval
 pub mod Raised

@@ -16,7 +16,8 @@ use Rattle.figures.proofs.Ring.{minus-times}
 use Rattle.figures.proofs.Sizes.{size-minus, size-product}
 use Rattle.steps.specs.Steps.{exactQ, exactX, exactRise, exactReduction, exactSeconds, exactApproximate, exactL, exactConvergence, qHalf, sizeOfXHalf, riseHalf, reductionHalf, secondsHalf, approximateLHalf, sizeOfLHalf, convergenceHalf}
 use Rattle.promises.specs.Meaning.{Halfway, AsNear, Marks}
-use Rattle.promises.proofs.NearestIsNearest.{apart, far, mirrored, only-the-nearest}
+use Rattle.figures.proofs.Apart.{apart, far, mirrored}
+use Rattle.promises.proofs.NearestIsNearest.{only-the-nearest}
 
 -- ---- sizes: n = q·d + d/2, so that 2n = (2q + 1)·d
 twice-odd : (n d : ℕ) → 2 * (n % d) ≡ d → 2 * n ≡ (2 * (n / d) + 1) * d

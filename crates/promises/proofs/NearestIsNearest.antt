@@ -2,33 +2,16 @@
 use mathlib.Core.Path.{_≡_, sym, ap, _∙_}
 use Prim.Native.Nat.{ℕ, suc, _+_, _*_, _-_, _<_, _≤_}
 use native.Mathlib.Nat.{add-mul}
-use native.Mathlib.Decide.{decLt, decLe}
+use native.Mathlib.Decide.{decLt}
 use native.Mathlib.Omega.{arith}
-use lib.IntN.{ℤ, pos, negsuc, negℤ, natAbs, subℕ, _-ℤ_, _*ℤ_, negℤ-+ℤ, negℤ-negℤ}
+use lib.IntN.{ℤ, pos, negsuc, negℤ, natAbs, _-ℤ_, _*ℤ_, negℤ-negℤ}
 use Rattle.figures.specs.Nearest.{withSign, nearestSize, nearest}
-use Rattle.figures.proofs.Ring.{minus-times}
-use Rattle.figures.proofs.Sizes.{subℕ-le, subℕ-lt, pos-minus, size-minus}
+use Rattle.figures.proofs.Sizes.{size-minus}
 use Rattle.figures.proofs.Rounding.{is-nearest, only-nearest}
+use Rattle.figures.proofs.Apart.{apart, far, mirrored}
 use Rattle.promises.specs.Meaning.{Nearest}
 
--- ---- how far two numbers lie apart
-pub apart : (a b : ℕ) → natAbs (pos a -ℤ pos b) ≡ (a - b) + (b - a)
-apart a b = ap natAbs (pos-minus a b) ∙ by-order (decLe b a)
-  where
-    by-order : Dec (b ≤ a) → natAbs (subℕ a b) ≡ (a - b) + (b - a)
-    by-order (yes h) = ap natAbs (subℕ-le h) ∙ omega arith
-    by-order (no h) = ap natAbs (subℕ-lt {a = a} {b = b} (omega arith)) ∙ omega arith
-
-pub far : (a b : ℕ) → natAbs (negℤ (pos a) -ℤ pos b) ≡ a + b
-far a b = ap natAbs (sym (negℤ-+ℤ (pos a) (pos b))) ∙ size-minus (pos (a + b))
-
 -- ---- both signs alike
-pub mirrored : (n r : ℤ) (d : ℕ) → natAbs (negℤ r *ℤ pos d -ℤ negℤ n) ≡ natAbs (r *ℤ pos d -ℤ n)
-mirrored n r d =
-    let turned : negℤ r *ℤ pos d -ℤ negℤ n ≡ negℤ (r *ℤ pos d -ℤ n)
-    = ap (λ (z : ℤ). z -ℤ negℤ n) (minus-times r (pos d)) ∙ sym (negℤ-+ℤ (r *ℤ pos d) (negℤ n)) in
-    ap natAbs turned ∙ size-minus (r *ℤ pos d -ℤ n)
-
 mirror : {n r : ℤ} {d : ℕ} → Nearest n d r → Nearest (negℤ n) d (negℤ r)
 mirror {n} {r} {d} h =
     let e = mirrored n r d in

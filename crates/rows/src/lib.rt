@@ -2,7 +2,6 @@
 use rules::Differences;
 use rules::Figures;
 ghost use mathlib.Core.Path.{_≡_};
-ghost use mathlib.Core.Bool.{true};
 ghost use Prim.Native.Nat.{_+_, _*_, _≤_};
 ghost use lib.IntN.{pos};
 ghost use lib.ListN.{length};
@@ -76,13 +75,11 @@ fn row_within_bounds(row: Row, next: Row) -> bool
     rules::within_bounds(row.figures, next.figures)
 }
 
-// Whether a latitude row's differences are those to the next, where the two are within their bounds.
+// Whether a latitude row's differences are those to the next.
 fn row_as_stated(row: Row, next: Row) -> bool
-    requires { ⌜ withinBounds (row .figures) (next .figures) ≡ true ⌝ }
     ensures { λ r. ⌜ r ≡ sameDifferences (row .differences) (differencesOf (row .figures) (next .figures)) ⌝ }
 {
-    let d = rules::differences_of(row.figures, next.figures);
-    rules::same_differences(row.differences, d)
+    rules::are_differences(row.differences, row.figures, next.figures)
 }
 
 // Whether a latitude row's differences are those of the last row.

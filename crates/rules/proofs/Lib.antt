@@ -1,3 +1,4 @@
 -- Laws of the rules. Other crates cite them.
 pub mod Ranges
 pub mod WhatPasses
+pub mod Sixties

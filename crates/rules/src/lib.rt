@@ -1,7 +1,7 @@
 // The rules of a sheet's figures, as functions of the figures, which the check and a correction call alike.
 ghost use mathlib.Core.Path.{_≡_};
 ghost use mathlib.Core.Bool.{true};
-ghost use Prim.Native.Nat.{_≤_};
+ghost use Prim.Native.Nat.{_%_, _≤_};
 ghost use lib.IntN.{natAbs, _-ℤ_};
 ghost use Rattle.figures.specs.Ranges.{mostScale, mostChange};
 ghost use Rattle.steps.specs.Steps.{perSecond};
@@ -95,6 +95,25 @@ pub fn differences_of(f: Figures, next: Figures) -> Differences
         h: over_minute(100, next.h, f.h),
         v: over_minute(100, f.v, next.v),
     }
+}
+
+// Whether d is the difference from x to next over 60 seconds, scaled to its column's unit. Nothing is divided: 60·d lies within half of 60 of the scaled rise. No half can occur, so d is
+// then the nearest.
+fn is_over_minute(scale: u64, d: i32, x: i32, next: i32) -> bool
+    requires { ⌜ (scale ≤ mostScale) × (scale % 20 ≡ 0) ⌝ }
+    ensures { λ r. ⌜ r ≡ sameAs d (perSecond scale (next -ℤ x)) ⌝ }
+{
+    let off = (d as i64) * 60 - (scale as i64) * rise(x, next);
+    (-30 <= off) & (off <= 30)
+}
+
+// Whether d are the differences of a row, from its figures and the next row's.
+pub fn are_differences(d: Differences, f: Figures, next: Figures) -> bool
+    ensures { λ r. ⌜ r ≡ sameDifferences d (differencesOf f next) ⌝ }
+{
+    is_over_minute(1_000, d.y, f.y0, next.y0)
+        & is_over_minute(100, d.h, next.h, f.h)
+        & is_over_minute(100, d.v, f.v, next.v)
 }
 
 // The differences of the last row.

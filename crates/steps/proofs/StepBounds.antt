@@ -1,14 +1,16 @@
 -- One step's answer is within what the next step asks, and the differences over 60 seconds meet no half. Assumes nothing.
-use mathlib.Core.Path.{_≡_}
-use Prim.Native.Nat.{ℕ, _+_, _*_, _%_, _<_, _≤_}
-use native.Mathlib.Nat.{le-refl, le-trans}
+use mathlib.Core.Path.{_≡_, sym, ap, _∙_}
+use Prim.Native.Nat.{ℕ, _+_, _*_, _/_, _%_, _<_, _≤_}
+use native.Mathlib.Nat.{le-refl, le-trans, div-add-mod'}
 use native.Mathlib.Omega.{arith}
 use lib.Dec.{lit<, lit≤}
-use lib.IntN.{ℤ, pos, natAbs, _+ℤ_, _-ℤ_, _*ℤ_}
+use lib.IntN.{ℤ, pos, natAbs, _+ℤ_, _-ℤ_, _*ℤ_, *ℤ-comm}
 use Rattle.figures.specs.Ranges.{mostH, mostV, mostA, mostB, mostC, mostP, mostM, mostD, mostS, mostQ, mostX, mostWord, mostScale, mostChange}
 use Rattle.steps.specs.Steps.{qOf, sizeOfX, rise, reduction, approximateL, sizeOfL, convergence, perSecond}
 use Rattle.figures.proofs.Sizes.{product-most, size-product, sum-most, difference-most, times-most}
 use Rattle.figures.proofs.Rounding.{nearestSize-most, nearestSize-le, size-nearest}
+use Rattle.figures.proofs.Ring.{times-assoc, difference-times}
+use Rattle.figures.proofs.Apart.{nearest-within, only-within}
 
 -- q of any s within the kind 3 rows is one that `rise` takes
 pub q-most : (s : ℕ) → s ≤ mostS → qOf s ≤ mostQ
@@ -69,3 +71,28 @@ per-second-most scale change h k =
 -- "(no half can occur)": a half of 60 is 30, and a change scaled by 20·k, as by 1000 and by 100, never leaves it over whole sixties
 pub no-half : (k change : ℕ) → (20 * (k * change)) % 60 ≡ 30 → ⊥
 no-half k change e = omega arith
+
+-- so the difference is the one number d of which 60·d is within 30 of the scaled change: both are twenties, and what lies between them is none, or one
+module _ (scale : ℕ) (change : ℤ) (twenties : scale % 20 ≡ 0) where
+  abbrev k : ℕ
+  k = scale / 20
+
+  scaled : pos scale *ℤ change ≡ (pos k *ℤ change) *ℤ pos 20
+  scaled =
+      let parts : scale ≡ k * 20 = omega (arith, div-add-mod' scale 20) in
+      ap (λ (n : ℕ). pos n *ℤ change) parts ∙ times-assoc (pos k) (pos 20) change ∙ ap (λ (z : ℤ). pos k *ℤ z) (*ℤ-comm (pos 20) change)
+      ∙ sym (times-assoc (pos k) change (pos 20))
+
+  between-twenties : (d : ℤ) → natAbs (d *ℤ pos 60 -ℤ pos scale *ℤ change) ≡ natAbs (d *ℤ pos 3 -ℤ pos k *ℤ change) * 20
+  between-twenties d =
+      ap natAbs (ap (λ (z : ℤ). z -ℤ pos scale *ℤ change) (sym (times-assoc d (pos 3) (pos 20))) ∙ ap (λ (z : ℤ). (d *ℤ pos 3) *ℤ pos 20 -ℤ z) scaled
+      ∙ sym (difference-times (d *ℤ pos 3) (pos k *ℤ change) (pos 20)))
+      ∙ size-product (d *ℤ pos 3 -ℤ pos k *ℤ change) (pos 20)
+
+  pub per-second-near : (d : ℤ) → natAbs (d *ℤ pos 60 -ℤ pos scale *ℤ change) ≤ 30 → d ≡ perSecond scale change
+  unfolding perSecond
+  per-second-near d near = only-within (pos scale *ℤ change) 60 d (omega (arith, near, between-twenties d))
+
+pub per-second-within : (scale : ℕ) (change : ℤ) → natAbs (perSecond scale change *ℤ pos 60 -ℤ pos scale *ℤ change) ≤ 30
+unfolding perSecond
+per-second-within scale change = omega (arith, nearest-within (pos scale *ℤ change) 60 (lit< tt))

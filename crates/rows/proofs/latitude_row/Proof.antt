@@ -1,5 +1,5 @@
 -- `rows::latitude_row` meets its contract. Assumes nothing.
-use Rattle.words.proofs.Refusals.{stop, go, kept}
+use Rattle.words.proofs.Refusals.{stop, go}
 use Rattle.rows.specs.Rows.{pairFault}
 use borrow.Author.Needs.{needs}
 use Rattle.rows.proofs.latitude_row.Statement.{statement}
@@ -35,7 +35,7 @@ row-within-bounds-requires : tie.Need-row-within-bounds-requires
 row-within-bounds-requires c κs = search needs
 
 row-as-stated-requires : tie.Need-row-as-stated-requires
-row-as-stated-requires c κs = kept _ _ (c .before .row-within-bounds .ensures) (c .if3 .left)
+row-as-stated-requires c κs = search needs
 
 pub latitude-row-spec : {M : Type 1} → statement M
 latitude-row-spec =
