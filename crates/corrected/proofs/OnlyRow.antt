@@ -76,7 +76,7 @@ high-four r w o h n₄ n₅ n₆ n₇ = omega arith
 
 -- ---- in the body: byte q lies in none of these words
 module _ (b : List ℕ) (n r : ℕ) (f : Figures) (q : ℕ) (no-own : Own 0 r (q / 4) → ⊥) (no-prior : Prior 0 r (q / 4) → ⊥) where
-  not-own : (k : ℕ) → 1 ≤ k → k ≤ 7 → q / 4 ≡ width * r + k → ⊥
+  not-own : (k : ℕ) → 1 ≤ k → k < width → q / 4 ≡ width * r + k → ⊥
   not-own k l h e = no-own (omega arith, omega arith)
 
   figures-keep : getD (putFigures b r f) q 0 ≡ getD b q 0

@@ -52,7 +52,7 @@ pub const ENTRY_WORDS: usize = 3;
 // The most bytes of a sheet.
 pub const MOST_BYTES: usize = 65_532;
 
-// Words in a row, by kind; easting and scale have one.
+// Words in a row, by kind.
 pub const ZONE_WIDTH: usize = 2;
 
 pub const LATITUDE_WIDTH: usize = 8;
@@ -60,6 +60,10 @@ pub const LATITUDE_WIDTH: usize = 8;
 pub const LONGITUDE_WIDTH: usize = 2;
 
 pub const NORTHING_WIDTH: usize = 2;
+
+pub const EASTING_WIDTH: usize = 1;
+
+pub const SCALE_WIDTH: usize = 1;
 
 // A minute of latitude, in 0.001″: the step of latitude.
 pub const ONE_MINUTE: u64 = 60_000;

@@ -7,7 +7,7 @@ use native.Mathlib.Omega.{arith}
 use lib.IntN.{pos, negℤ}
 use Rattle.words.specs.Words.{wordAt}
 use Rattle.words.proofs.Refusals.{rung, where-below}
-use Rattle.entries.specs.Layout.{zone, longitude, northing, widthOf}
+use Rattle.entries.specs.Layout.{zone, longitude, northing, easting, scale, widthOf}
 use Rattle.rules.specs.Limits.{inRange, rises}
 use Rattle.small_rows.specs.SmallRows.{zeroFirst, zoneFault, longitudeFault, northingFault, eastingFault, scaleFault}
 
@@ -62,8 +62,8 @@ module _ (b : List ℕ) (i : ℕ) where
       record { p-range = p .0; m-range = q .0 }
 
   pub record EastingRow : Type 0 where
-    pub d-range : inRange (negℤ (pos 100)) (wordAt b i) (pos 100) ≡ true
-    pub d-first : zeroFirst (wordAt b i) i ≡ true
+    pub d-range : inRange (negℤ (pos 100)) (wordAt b (widthOf easting * i)) (pos 100) ≡ true
+    pub d-first : zeroFirst (wordAt b (widthOf easting * i)) i ≡ true
 
   pub easting-row : eastingFault b i ≡ 0 → EastingRow
   unfolding eastingFault
@@ -73,7 +73,7 @@ module _ (b : List ℕ) (i : ℕ) where
       record { d-range = p .0; d-first = q .0 }
 
   pub record ScaleRow : Type 0 where
-    pub k-range : inRange (pos 9_990_000) (wordAt b i) (pos 10_010_000) ≡ true
+    pub k-range : inRange (pos 9_990_000) (wordAt b (widthOf scale * i)) (pos 10_010_000) ≡ true
 
   pub scale-row : scaleFault b i ≡ 0 → ScaleRow
   unfolding scaleFault

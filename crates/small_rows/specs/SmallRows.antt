@@ -8,7 +8,7 @@ use Prim.Native.Nat.{ℕ, _+_, _*_}
 use lib.IntN.{ℤ, pos, negℤ}
 use Rattle.words.specs.Words.{wordAt}
 use Rattle.words.specs.Ladder.{need, whereBelow}
-use Rattle.entries.specs.Layout.{zone, longitude, northing, widthOf}
+use Rattle.entries.specs.Layout.{zone, longitude, northing, easting, scale, widthOf}
 use Rattle.rules.specs.Limits.{inRange, rises}
 
 -- The figure is 0 in row 0; in a later row it may be any.
@@ -44,12 +44,12 @@ northingFault b i =
 -- "5 easting": "d (0.01 ft)", "±100; row 0 is 0"
 unfoldable pub eastingFault : List ℕ → ℕ → ℕ
 eastingFault b i =
-    need (inRange (negℤ (pos 100)) (wordAt b i) (pos 100)) 6
-    (need (zeroFirst (wordAt b i) i) 6
+    need (inRange (negℤ (pos 100)) (wordAt b (widthOf easting * i)) (pos 100)) 6
+    (need (zeroFirst (wordAt b (widthOf easting * i)) i) 6
     0)
 
 -- "6 scale": "k (10⁻⁷)", "9,990,000 to 10,010,000"
 unfoldable pub scaleFault : List ℕ → ℕ → ℕ
 scaleFault b i =
-    need (inRange (pos 9_990_000) (wordAt b i) (pos 10_010_000)) 6
+    need (inRange (pos 9_990_000) (wordAt b (widthOf scale * i)) (pos 10_010_000)) 6
     0

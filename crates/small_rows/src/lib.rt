@@ -4,7 +4,7 @@ ghost use Prim.Native.Nat.{_+_, _*_, _<_, _≤_};
 ghost use lib.IntN.{pos};
 ghost use lib.ListN.{length};
 ghost use Rattle.words.specs.Words.{wordAt};
-ghost use Rattle.entries.specs.Layout.{zone, longitude, northing, rowBytes};
+ghost use Rattle.entries.specs.Layout.{zone, longitude, northing, easting, scale, rowBytes};
 ghost use Rattle.rules.specs.Limits.{inRange, rises};
 ghost use Rattle.small_rows.specs.SmallRows.{zeroFirst, zoneFault, longitudeFault, northingFault, eastingFault, scaleFault};
 
@@ -92,10 +92,10 @@ pub fn northing_row(b: &[u8], i: usize) -> u32
 
 // The number of the fault of an easting row.
 pub fn easting_row(b: &[u8], i: usize) -> u32
-    requires { ⌜ 4 * i + 4 ≤ length (now b) ⌝ }
+    requires { ⌜ rowBytes easting * i + rowBytes easting ≤ length (now b) ⌝ }
     ensures { λ r. ⌜ r ≡ eastingFault (now (b .entry)) i ⌝ }
 {
-    let d = words::word(b, i);
+    let d = words::word(b, entries::EASTING_WIDTH * i);
     if !rules::in_range(-100, d, 100) {
         return 6;
     }
@@ -107,10 +107,10 @@ pub fn easting_row(b: &[u8], i: usize) -> u32
 
 // The number of the fault of a scale row.
 pub fn scale_row(b: &[u8], i: usize) -> u32
-    requires { ⌜ 4 * i + 4 ≤ length (now b) ⌝ }
+    requires { ⌜ rowBytes scale * i + rowBytes scale ≤ length (now b) ⌝ }
     ensures { λ r. ⌜ r ≡ scaleFault (now (b .entry)) i ⌝ }
 {
-    if !word_in(b, i, 9_990_000, 10_010_000) {
+    if !word_in(b, entries::SCALE_WIDTH * i, 9_990_000, 10_010_000) {
         return 6;
     }
     0

@@ -28,10 +28,6 @@ use Rattle.reading.proofs.Values.{value-most, value-size, value-slope}
 use Rattle.tables.specs.Figures.{figureOf, figureAt, figureHalf, latitudeAt, latitudeHalf, centralMeridian, falseEasting, firstLatitude, y0Of, y0At, hAt, aAt, bAt, cAt, dAt, kAt}
 use Rattle.tables.proofs.Parts.{step-above}
 
--- a body of one word in a row
-one-word : {i : ℕ} → 1 * i + 0 ≡ i
-one-word = omega arith
-
 -- a size is not negative
 not-below : {low high : ℕ} (x : ℤ) → Size low x high → leZ (pos 0) x ≡ true
 not-below x h = rw (h .is) (le-leb 0 (natAbs x) zero-le)
@@ -215,10 +211,10 @@ module _ (s : List ℕ) (z : checkOf s .number ≡ 0) where
   unfolding lastOf dAt
   d-between size h =
       value-most (λ i. figureOf s easting 0 i) (rowsOf s easting) (stepOf s easting) size (above easting (omega arith) (omega arith) (omega arith)) (some easting (omega arith) (omega arith)) (h .most) mostD
-      (λ i l. rw one-word (range-most mostD _ (easting-rows s (passes-sound s z) i l .d-range)))
+      (λ i l. rw add-zero (range-most mostD _ (easting-rows s (passes-sound s z) i l .d-range)))
 
   k-row : (i : ℕ) → i < rowsOf s scale → Size 9_990_000 (figureOf s scale 0 i) 10_010_000
-  k-row i l = rw one-word (range-size 9_990_000 _ 10_010_000 (scale-rows s (passes-sound s z) i l .k-range))
+  k-row i l = rw add-zero (range-size 9_990_000 _ 10_010_000 (scale-rows s (passes-sound s z) i l .k-range))
 
   pub k-rows : NotNegative (figureOf s scale 0) (rowsOf s scale)
   k-rows = all-sizes (figureOf s scale 0) (rowsOf s scale) 9_990_000 10_010_000 k-row

@@ -2,14 +2,15 @@
 use borrow.Author.Needs.{needs}
 use native.Mathlib.Omega.{arith}
 use mathlib.Core.Path.{_≡_}
+use Rattle.entries.specs.Layout.{scale}
 use Rattle.bodies.proofs.Parts.{row-zone, rows-longitude, row-northing, row-easting, row-scale}
 use Rattle.bodies.proofs.ByRow.{of-zone, of-longitude, of-northing, of-easting, of-scale}
 use Rattle.bodies.proofs.row_fault.Statement.{statement}
 use Rattle.bodies.proofs.row_fault.Tie as tie
 
--- a kind that is none of the others is the sixth
-six : (c : tie.Else4) → c .before .before .before .before .before .args .kind ≡ 6
-six c = omega (arith, c .before .before .before .before .before .pre .2)
+-- a kind that is none of the others is scale
+rest-is : (c : tie.Else4) → c .before .before .before .before .before .args .kind ≡ scale
+rest-is c = omega (arith, c .before .before .before .before .before .pre .2)
 
 returns : tie.Need-returns
 returns c = search of-zone
@@ -24,7 +25,7 @@ returns-4 : tie.Need-returns-4
 returns-4 c = search of-easting
 
 returns-5 : tie.Need-returns-5
-returns-5 c = of-scale _ _ _ _ _ (six (c .before)) (c .scale-row .ensures)
+returns-5 c = of-scale _ _ _ _ _ (rest-is (c .before)) (c .scale-row .ensures)
 
 zone-row-requires : tie.Need-zone-row-requires
 zone-row-requires c κs = search row-zone
@@ -39,7 +40,7 @@ easting-row-requires : tie.Need-easting-row-requires
 easting-row-requires c κs = search row-easting
 
 scale-row-requires : tie.Need-scale-row-requires
-scale-row-requires c κs = let s = c .before .before .before .before .before in row-scale _ _ _ (s .pre .3) _ (s .pre .4) (six c)
+scale-row-requires c κs = let s = c .before .before .before .before .before in row-scale _ _ _ (s .pre .3) _ (s .pre .4) (rest-is c)
 
 pub row-fault-spec : {M : Type 1} → statement M
 row-fault-spec =

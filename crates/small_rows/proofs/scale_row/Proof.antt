@@ -13,8 +13,11 @@ returns-2 : tie.Need-returns-2
 unfolding scaleFault
 returns-2 c = search go
 
+mul-word-in : tie.Need-mul-word-in
+mul-word-in c = search needs
+
 word-in-requires : tie.Need-word-in-requires
 word-in-requires c κs = search needs
 
 pub scale-row-spec : {M : Type 1} → statement M
-scale-row-spec = tie.close (tie.spec word-in-requires returns returns-2)
+scale-row-spec = tie.close (tie.spec mul-word-in word-in-requires returns returns-2)
