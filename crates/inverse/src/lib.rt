@@ -31,12 +31,11 @@ pub fn reduced_northing(s: &[u8], p: Places, x: u64, y: i32) -> Rounded
     ensures { λ r. ⌜ (r .value ≡ reducedNorthing (now (s .entry)) x y) × (natAbs (r .value) < 2 ^ 62) × (r .half ≡ reducedHalf (now (s .entry)) x y) ⌝ }
 {
     let north = y as i64;
-    let big_p = tables::p_at(s, p, north as u64);
-    let d = tables::d_at(s, p, x);
-    let reduction = steps::reduction(big_p.value, x, d.value);
+    let read = tables::for_reduction(s, p, north as u64, x);
+    let reduction = steps::reduction(read.p.value, x, read.d.value);
     Rounded {
         value: north - reduction.value,
-        half: big_p.half | d.half | reduction.half,
+        half: read.p.half | read.d.half | reduction.half,
     }
 }
 
