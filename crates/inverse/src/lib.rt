@@ -152,7 +152,8 @@ pub fn inverse(s: &[u8], p: Places, x: i32, y: i32) -> Geographic
     requires { ⌜ KnownToPass (now s) p ⌝ }
     ensures { λ r. ⌜ r ≡ inverseOf (now (s .entry)) x y ⌝ }
 {
-    let xp = extent::x_prime(s, p, x);
+    let o = tables::origin_of(s, p);
+    let xp = extent::x_prime(s, o, x);
     if !extent::easting_known(s, p, xp) {
         return Geographic {
             number: 12,

@@ -136,7 +136,8 @@ fn back(s: &[u8], p: Places, x: i32, y: i32)
 {
     let r = convert::plane_to_geographic(s, x, y);
     print_line(b"P", x, y, r.number, r.latitude, r.longitude);
-    let xp = extent::x_prime(s, p, x);
+    let o = tables::origin_of(s, p);
+    let xp = extent::x_prime(s, o, x);
     if !extent::easting_known(s, p, xp) {
         return;
     }
