@@ -83,8 +83,9 @@ from-reduced-requires : tie.Need-from-reduced-requires
 from-reduced-requires c κs =
     let found = c .before in
     let p = found .before .before .before .before .before .before .before .before .before .pre in
+    let origin = found .before .before .before .before .before .before .before .origin-of .ensures in
     let easting = kept _ _ (found .before .before .before .before .before .easting-known .ensures) (found .before .before .before .before .if1 .left) in
-    (p, easting, rw (reduced-bits found) (found .reduced-northing .ensures .1))
+    (p, origin, easting, rw (reduced-bits found) (found .reduced-northing .ensures .1))
 
 pub inverse-spec : {M : Type 1} → statement M
 inverse-spec =
