@@ -1,15 +1,15 @@
 -- A point's numbers as the code has them: sizes and differences that pass 32 bits and are far from 64. Assumes nothing.
 use mathlib.Core.Path.{_≡_, ap, _∙_}
 use mathlib.Core.Bool.{Bool, _&&_}
-use Prim.Native.Nat.{ℕ, _+_, _-_, _^_, _<_, _≤_}
+use Prim.Native.Nat.{ℕ, _-_, _^_, _<_, _≤_}
 use native.Mathlib.Nat.{lt-of-le-of-lt}
 use native.Mathlib.Omega.{arith}
-use lib.Dec.{T, ltb, lit<}
-use lib.IntN.{ℤ, pos, natAbs, _-ℤ_}
-use lib.Signed.{mag, leZ}
+use lib.Dec.{lit<}
+use lib.IntN.{ℤ, pos, natAbs}
+use lib.Signed.{leZ}
 use mir.Syntax.{w32, w64}
 use mir.Val.{SFits, toZ, ofZ}
-use Rattle.figures.proofs.Holds.{Holds, held, held-result, held-size, size-i32, cast, cast-fits, difference, difference-fits, renamed}
+use Rattle.figures.proofs.Holds.{Holds, held, held-size, size-i32, cast, cast-fits}
 
 -- a point's number, widened
 pub wide : {z : ℤ} → SFits w32 z → Holds w64 (ofZ w64 (toZ w32 (ofZ w32 z))) z 2_147_483_648
@@ -17,17 +17,6 @@ wide h = cast (held h (size-i32 h)) tt
 
 pub wide-fits : {z : ℤ} → SFits w32 z → SFits w64 (toZ w32 (ofZ w32 z))
 wide-fits h = cast-fits (held h (size-i32 h)) tt
-
--- ---- a point's number z and a figure v, which was read as r
-module _ {z r v : ℤ} {k : ℕ} (h : SFits w32 z) (ok : mag r < 2 ^ 63) (e : (r ≡ v) × (natAbs r ≤ k)) (t : T (ltb (2_147_483_648 + k) (2 ^ 63))) where
-  figure : Holds w64 (ofZ w64 r) v k
-  figure = renamed (held-result w64 r ok (e .1)) (e .0)
-
-  pub point-less-fits : SFits w64 (toZ w64 (ofZ w64 (toZ w32 (ofZ w32 z))) -ℤ toZ w64 (ofZ w64 r))
-  point-less-fits = difference-fits (wide h) figure t
-
-  pub point-less : Holds w64 (ofZ w64 (toZ w64 (ofZ w64 (toZ w32 (ofZ w32 z))) -ℤ toZ w64 (ofZ w64 r))) (z -ℤ v) (2_147_483_648 + k)
-  point-less = difference (wide h) figure t
 
 -- a number as it is answered, with its bound
 pub answered : {n B : ℕ} {z : ℤ} → Holds w64 n z B → (toZ w64 n ≡ z) × (natAbs (toZ w64 n) ≤ B)

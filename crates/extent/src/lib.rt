@@ -66,11 +66,11 @@ pub fn longitude_known(s: &[u8], p: Places, o: Origin, longitude: i32) -> bool
 }
 
 // x′, in 0.01 ft.
-pub fn x_prime(s: &[u8], p: Places, x: i32) -> i64
-    requires { ⌜ KnownToPass (now s) p ⌝ }
+pub fn x_prime(s: &[u8], o: Origin, x: i32) -> i64
+    requires { ⌜ (checkOf (now s) .number ≡ 0) × (o ≡ originOf (now s)) ⌝ }
     ensures { λ r. ⌜ (r ≡ xPrime (now (s .entry)) x) × (natAbs r ≤ 2_247_483_648) ⌝ }
 {
-    (x as i64) - tables::false_easting(s, p)
+    (x as i64) - o.false_easting
 }
 
 // Whether x′ in size is not above the last kind 5 row.

@@ -35,7 +35,8 @@ pub fn convergence(s: &[u8], p: Places, x: i32, y: i32) -> Grid
     requires { ⌜ KnownToPass (now s) p ⌝ }
     ensures { λ r. ⌜ r ≡ gridOf (now (s .entry)) x y ⌝ }
 {
-    let xp = extent::x_prime(s, p, x);
+    let o = tables::origin_of(s, p);
+    let xp = extent::x_prime(s, o, x);
     if !extent::scale_known(s, p, xp) {
         return Grid {
             number: 12,

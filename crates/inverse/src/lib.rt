@@ -3,6 +3,7 @@ use entries::Places;
 use figures::Rounded;
 use figures::RoundedSize;
 use tables::At;
+use tables::Origin;
 ghost use mathlib.Core.Path.{_≡_};
 ghost use mathlib.Core.Bool.{true};
 ghost use Prim.Native.Nat.{_+_, _-_, _*_, _^_, _<_, _≤_, min};
@@ -11,9 +12,9 @@ ghost use lib.Signed.{leZ};
 ghost use Rattle.figures.specs.Ranges.{mostGap};
 ghost use Rattle.entries.specs.Layout.{latitude, easting, oneMinute};
 ghost use Rattle.entries.specs.Entries.{rowsOf, Within};
-ghost use Rattle.bodies.specs.Check.{KnownToPass};
+ghost use Rattle.bodies.specs.Check.{checkOf, KnownToPass};
 ghost use Rattle.steps.specs.Steps.{approximateLHalf};
-ghost use Rattle.tables.specs.Figures.{hAt};
+ghost use Rattle.tables.specs.Figures.{originOf, hAt};
 ghost use Rattle.extent.specs.Extent.{sizeKnown, eastingKnown, northingKnown, reducedKnown};
 ghost use Rattle.inverse.specs.Inverse.{reducedNorthing, reducedHalf, rowOf, distanceOf, distanceHalf, approximateOf, sizeOf, sizeHalf, geographicAt, fromDistance, fromReduced, inverseOf};
 
@@ -25,18 +26,17 @@ pub struct Geographic {
     pub half: bool,
 }
 
-// The reduced northing, in 0.01 ft, at the size x of x′ and y.
+// The reduced northing, in 0.01 ft, at the size x of x′ and y. P and d are read at once.
 pub fn reduced_northing(s: &[u8], p: Places, x: u64, y: i32) -> Rounded
     requires { ⌜ KnownToPass (now s) p × Within (now s) easting x × (northingKnown (now s) y ≡ true) ⌝ }
     ensures { λ r. ⌜ (r .value ≡ reducedNorthing (now (s .entry)) x y) × (natAbs (r .value) < 2 ^ 62) × (r .half ≡ reducedHalf (now (s .entry)) x y) ⌝ }
 {
     let north = y as i64;
-    let big_p = tables::p_at(s, p, north as u64);
-    let d = tables::d_at(s, p, x);
-    let reduction = steps::reduction(big_p.value, x, d.value);
+    let read = tables::for_reduction(s, p, north as u64, x);
+    let reduction = steps::reduction(read.p.value, x, read.d.value);
     Rounded {
         value: north - reduction.value,
-        half: big_p.half | d.half | reduction.half,
+        half: read.p.half | read.d.half | reduction.half,
     }
 }
 
@@ -85,23 +85,23 @@ fn size_of(s: &[u8], p: Places, x: u64, at: At, approximate: RoundedSize) -> Rou
     }
 }
 
-// The point on the earth, of x′, the latitude's place and the size of L, which is within its table.
-fn geographic_at(s: &[u8], p: Places, xp: i64, at: At, size: Rounded, met: bool) -> Geographic
-    requires { ⌜ KnownToPass (now s) p × (at .row + 1 < rowsOf (now s) latitude) × (at .past ≤ oneMinute) × (size .value ≡ sizeOf (now s) (natAbs xp) (at .row * oneMinute + at .past)) × (sizeKnown (now s) (size .value) ≡ true) × (size .half ≡ sizeHalf (now s) (natAbs xp) (at .row * oneMinute + at .past)) ⌝ }
+// The point on the earth, of x′, the latitude's place and the size of L, which is within its table. Its numbers are measured from the sheet's origin, and no table is read.
+fn geographic_at(s: &[u8], o: Origin, xp: i64, at: At, size: Rounded, met: bool) -> Geographic
+    requires { ⌜ (checkOf (now s) .number ≡ 0) × (o ≡ originOf (now s)) × (at .row + 1 < rowsOf (now s) latitude) × (at .past ≤ oneMinute) × (size .value ≡ sizeOf (now s) (natAbs xp) (at .row * oneMinute + at .past)) × (sizeKnown (now s) (size .value) ≡ true) × (size .half ≡ sizeHalf (now s) (natAbs xp) (at .row * oneMinute + at .past)) ⌝ }
     ensures { λ r. ⌜ r ≡ geographicAt (now (s .entry)) xp (at .row * oneMinute + at .past) met ⌝ }
 {
     let t = (at.row as u64) * entries::ONE_MINUTE + at.past;
     Geographic {
         number: 0,
-        latitude: (tables::first_latitude(s, p) + (t as i64)) as i32,
-        longitude: (tables::central_meridian(s, p) - figures::with_sign(xp, size.value)) as i32,
+        latitude: (o.first_latitude + (t as i64)) as i32,
+        longitude: (o.central_meridian - figures::with_sign(xp, size.value)) as i32,
         half: met | size.half,
     }
 }
 
 // 11, or the point on the earth, from x′ and the latitude's place. `met`, here and below: some rounding before met a half.
-fn from_distance(s: &[u8], p: Places, xp: i64, at: At, met: bool) -> Geographic
-    requires { ⌜ KnownToPass (now s) p × (eastingKnown (now s) xp ≡ true) × (at .row + 1 < rowsOf (now s) latitude) × (at .past ≤ oneMinute) ⌝ }
+fn from_distance(s: &[u8], p: Places, o: Origin, xp: i64, at: At, met: bool) -> Geographic
+    requires { ⌜ KnownToPass (now s) p × (o ≡ originOf (now s)) × (eastingKnown (now s) xp ≡ true) × (at .row + 1 < rowsOf (now s) latitude) × (at .past ≤ oneMinute) ⌝ }
     ensures { λ r. ⌜ r ≡ fromDistance (now (s .entry)) xp (at .row * oneMinute + at .past) met ⌝ }
 {
     let x = figures::size(xp);
@@ -123,12 +123,12 @@ fn from_distance(s: &[u8], p: Places, xp: i64, at: At, met: bool) -> Geographic
             half: false,
         };
     }
-    geographic_at(s, p, xp, at, size, met)
+    geographic_at(s, o, xp, at, size, met)
 }
 
 // 14, 11, or the point on the earth, from x′ and the reduced northing.
-fn from_reduced(s: &[u8], p: Places, xp: i64, reduced: i64, met: bool) -> Geographic
-    requires { ⌜ KnownToPass (now s) p × (eastingKnown (now s) xp ≡ true) × (natAbs reduced < 2 ^ 62) ⌝ }
+fn from_reduced(s: &[u8], p: Places, o: Origin, xp: i64, reduced: i64, met: bool) -> Geographic
+    requires { ⌜ KnownToPass (now s) p × (o ≡ originOf (now s)) × (eastingKnown (now s) xp ≡ true) × (natAbs reduced < 2 ^ 62) ⌝ }
     ensures { λ r. ⌜ r ≡ fromReduced (now (s .entry)) xp reduced met ⌝ }
 {
     if !extent::reduced_known(s, p, reduced) {
@@ -145,15 +145,16 @@ fn from_reduced(s: &[u8], p: Places, xp: i64, reduced: i64, met: bool) -> Geogra
         row,
         past: seconds.value,
     };
-    from_distance(s, p, xp, at, met | seconds.half)
+    from_distance(s, p, o, xp, at, met | seconds.half)
 }
 
-// Plane to geographic: 12, 13, 14, 11, or latitude and longitude.
+// Plane to geographic: 12, 13, 14, 11, or latitude and longitude. The origin is read once: x′ and the answer are both measured from it.
 pub fn inverse(s: &[u8], p: Places, x: i32, y: i32) -> Geographic
     requires { ⌜ KnownToPass (now s) p ⌝ }
     ensures { λ r. ⌜ r ≡ inverseOf (now (s .entry)) x y ⌝ }
 {
-    let xp = extent::x_prime(s, p, x);
+    let o = tables::origin_of(s, p);
+    let xp = extent::x_prime(s, o, x);
     if !extent::easting_known(s, p, xp) {
         return Geographic {
             number: 12,
@@ -171,5 +172,5 @@ pub fn inverse(s: &[u8], p: Places, x: i32, y: i32) -> Geographic
         };
     }
     let reduced = reduced_northing(s, p, figures::size(xp), y);
-    from_reduced(s, p, xp, reduced.value, reduced.half)
+    from_reduced(s, p, o, xp, reduced.value, reduced.half)
 }

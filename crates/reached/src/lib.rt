@@ -40,7 +40,8 @@ fn plane_minute(s: &[u8], p: Places, x: i32, y: i32) -> u64
     requires { ⌜ KnownToPass (now s) p ⌝ }
     ensures { λ r. ⌜ (r ≡ planeMinute (now (s .entry)) x y) × (r ≤ 40_000) ⌝ }
 {
-    let xp = extent::x_prime(s, p, x);
+    let o = tables::origin_of(s, p);
+    let xp = extent::x_prime(s, o, x);
     if !extent::easting_known(s, p, xp) {
         return 0;
     }

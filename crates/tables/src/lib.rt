@@ -249,13 +249,13 @@ pub fn longitude_at(s: &[u8], p: Places, size: u64) -> Longitude
     let step = p.longitude.step;
     if step == usual {
         return Longitude {
-            b: value_by(s, p.longitude, entries::LONGITUDE, 0, usual, size),
             c: value_by(s, p.longitude, entries::LONGITUDE, 1, usual, size),
+            b: value_by(s, p.longitude, entries::LONGITUDE, 0, usual, size),
         };
     }
     Longitude {
-        b: value_by(s, p.longitude, entries::LONGITUDE, 0, step, size),
         c: value_by(s, p.longitude, entries::LONGITUDE, 1, step, size),
+        b: value_by(s, p.longitude, entries::LONGITUDE, 0, step, size),
     }
 }
 
@@ -272,17 +272,29 @@ pub fn b_at(s: &[u8], p: Places, size: u64) -> Rounded
     value_by(s, p.longitude, entries::LONGITUDE, 0, step, size)
 }
 
-// P at y, in 0.00001.
-pub fn p_at(s: &[u8], p: Places, y: u64) -> RoundedSize
-    requires { ⌜ KnownToPass (now s) p × Within (now s) northing y ⌝ }
-    ensures { λ r. ⌜ (r .value ≡ pAt (now (s .entry)) y) × (r .value ≤ mostP) × (r .half ≡ pHalf (now (s .entry)) y) ⌝ }
+// P in 0.00001 and d in 0.01 ft: what the reduction of y is worked from.
+pub struct ForReduction {
+    pub p: RoundedSize,
+    pub d: Rounded,
+}
+
+// P at y and d at a size of x′. One test for both steps.
+pub fn for_reduction(s: &[u8], p: Places, y: u64, size: u64) -> ForReduction
+    requires { ⌜ KnownToPass (now s) p × Within (now s) northing y × Within (now s) easting size ⌝ }
+    ensures { λ r. ⌜ (r .p .value ≡ pAt (now (s .entry)) y) × (r .p .value ≤ mostP) × (r .p .half ≡ pHalf (now (s .entry)) y) × (r .d .value ≡ dAt (now (s .entry)) size) × (natAbs (r .d .value) ≤ mostD) × (r .d .half ≡ dHalf (now (s .entry)) size) ⌝ }
 {
-    let usual = entries::usual_step(entries::NORTHING);
-    let step = p.northing.step;
-    if step == usual {
-        return size_by(s, p.northing, entries::NORTHING, 0, usual, y);
+    let north = entries::usual_step(entries::NORTHING);
+    let east = entries::usual_step(entries::EASTING);
+    if (p.northing.step == north) & (p.easting.step == east) {
+        return ForReduction {
+            p: size_by(s, p.northing, entries::NORTHING, 0, north, y),
+            d: value_by(s, p.easting, entries::EASTING, 0, east, size),
+        };
     }
-    size_by(s, p.northing, entries::NORTHING, 0, step, y)
+    ForReduction {
+        p: size_by(s, p.northing, entries::NORTHING, 0, p.northing.step, y),
+        d: value_by(s, p.easting, entries::EASTING, 0, p.easting.step, size),
+    }
 }
 
 // M at y, in 10⁻⁷.
@@ -296,19 +308,6 @@ pub fn m_at(s: &[u8], p: Places, y: u64) -> RoundedSize
         return size_by(s, p.northing, entries::NORTHING, 1, usual, y);
     }
     size_by(s, p.northing, entries::NORTHING, 1, step, y)
-}
-
-// d at a size of x′, in 0.01 ft.
-pub fn d_at(s: &[u8], p: Places, size: u64) -> Rounded
-    requires { ⌜ KnownToPass (now s) p × Within (now s) easting size ⌝ }
-    ensures { λ r. ⌜ (r .value ≡ dAt (now (s .entry)) size) × (natAbs (r .value) ≤ mostD) × (r .half ≡ dHalf (now (s .entry)) size) ⌝ }
-{
-    let usual = entries::usual_step(entries::EASTING);
-    let step = p.easting.step;
-    if step == usual {
-        return value_by(s, p.easting, entries::EASTING, 0, usual, size);
-    }
-    value_by(s, p.easting, entries::EASTING, 0, step, size)
 }
 
 // k at a size of x′, in 10⁻⁷.

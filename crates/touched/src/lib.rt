@@ -83,7 +83,8 @@ fn may_move_earth(s: &[u8], p: Places, r: usize, x: i32, y: i32) -> bool
     requires { ⌜ KnownToPass (now s) p × (r < rowsOf (now s) latitude) ⌝ }
     ensures { λ t. ⌜ t ≡ inverseTouched (now (s .entry)) r x y ⌝ }
 {
-    let xp = extent::x_prime(s, p, x);
+    let o = tables::origin_of(s, p);
+    let xp = extent::x_prime(s, o, x);
     if !extent::easting_known(s, p, xp) {
         return false;
     }

@@ -121,11 +121,10 @@ fn show_reduction(s: &[u8], p: Places, x: u64, y: i32)
     requires { ⌜ KnownToPass (now s) p × Within (now s) easting x × (northingKnown (now s) y ≡ true) ⌝ }
 {
     let north = y as i64;
-    let big_p = tables::p_at(s, p, north as u64).value;
-    let d = tables::d_at(s, p, x).value;
-    let reduction = steps::reduction(big_p, x, d).value;
-    print_size(b" P ", big_p);
-    print_figure(b" d ", d);
+    let read = tables::for_reduction(s, p, north as u64, x);
+    let reduction = steps::reduction(read.p.value, x, read.d.value).value;
+    print_size(b" P ", read.p.value);
+    print_figure(b" d ", read.d.value);
     print_figure(b" reduction ", reduction);
     print_figure(b" reduced ", north - reduction);
     print(b"\n");
@@ -137,7 +136,8 @@ fn back(s: &[u8], p: Places, x: i32, y: i32)
 {
     let r = convert::plane_to_geographic(s, x, y);
     print_line(b"P", x, y, r.number, r.latitude, r.longitude);
-    let xp = extent::x_prime(s, p, x);
+    let o = tables::origin_of(s, p);
+    let xp = extent::x_prime(s, o, x);
     if !extent::easting_known(s, p, xp) {
         return;
     }

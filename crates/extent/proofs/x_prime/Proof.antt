@@ -1,22 +1,24 @@
 -- `extent::x_prime` meets its contract. Assumes nothing.
+use Rattle.figures.proofs.Holds.{difference, difference-fits}
+use Rattle.tables.proofs.Origins.{easting-held}
 use Rattle.extent.specs.Extent.{xPrime}
-use Rattle.extent.proofs.Points.{wide-fits, point-less, point-less-fits, answered}
-use borrow.Author.Needs.{needs}
+use Rattle.extent.proofs.Points.{wide, wide-fits, answered}
 use Rattle.extent.proofs.x_prime.Statement.{statement}
 use Rattle.extent.proofs.x_prime.Tie as tie
 
 returns : tie.Need-returns
 unfolding xPrime
-returns c = answered (point-less (c .before .before .fits .x) (c .false-easting .ok) (c .false-easting .ensures) tt)
+returns c =
+    let start = c .before .before in
+    answered (difference (wide (start .fits .x)) (easting-held _ (start .pre .0) _ (start .pre .1)) tt)
 
 cast-result : tie.Need-cast-result
-cast-result c = wide-fits (c .before .fits .x)
-
-false-easting-requires : tie.Need-false-easting-requires
-false-easting-requires c κs = search needs
+cast-result c = wide-fits (c .fits .x)
 
 sub-result : tie.Need-sub-result
-sub-result c = point-less-fits (c .before .before .fits .x) (c .false-easting .ok) (c .false-easting .ensures) tt
+sub-result c =
+    let start = c .before .before in
+    difference-fits (wide (start .fits .x)) (easting-held _ (start .pre .0) _ (start .pre .1)) tt
 
 pub x-prime-spec : {M : Type 1} → statement M
-x-prime-spec = tie.close (tie.spec cast-result false-easting-requires sub-result returns)
+x-prime-spec = tie.close (tie.spec cast-result sub-result returns)

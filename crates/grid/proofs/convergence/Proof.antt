@@ -18,14 +18,14 @@ x-is c = search needs
 y-is : (c : tie.Start) → toZ w32 (ofZ w32 (c .args .y)) ≡ c .args .y
 y-is c = search needs
 
-xp-is : (c : tie.After-x-prime) → toZ w64 (ofZ w64 (c .x-prime .result)) ≡ xPrime (now (c .before .before .args .s)) (c .before .before .args .x)
-xp-is c = bits-is (c .x-prime .ok) ∙ c .x-prime .ensures .0 ∙ ap (xPrime _) (x-is (c .before .before))
+xp-is : (c : tie.After-x-prime) → toZ w64 (ofZ w64 (c .x-prime .result)) ≡ xPrime (now (c .before .before .before .args .s)) (c .before .before .before .args .x)
+xp-is c = bits-is (c .x-prime .ok) ∙ c .x-prime .ensures .0 ∙ ap (xPrime _) (x-is (c .before .before .before))
 
-scale-known-is : (c : tie.After-scale-known) → let args = c .before .before .before .args in c .scale-known .result ≡ scaleKnown (now (args .s)) (xPrime (now (args .s)) (args .x))
+scale-known-is : (c : tie.After-scale-known) → let args = c .before .before .before .before .args in c .scale-known .result ≡ scaleKnown (now (args .s)) (xPrime (now (args .s)) (args .x))
 scale-known-is c = c .scale-known .ensures ∙ ap (scaleKnown _) (xp-is (c .before))
 
-northing-is : (c : tie.After-northing-known) → let args = c .before .before .before .before .before .args in c .northing-known .result ≡ northingKnown (now (args .s)) (args .y)
-northing-is c = c .northing-known .ensures ∙ ap (northingKnown _) (y-is (c .before .before .before .before .before))
+northing-is : (c : tie.After-northing-known) → let args = c .before .before .before .before .before .before .args in c .northing-known .result ≡ northingKnown (now (args .s)) (args .y)
+northing-is c = c .northing-known .ensures ∙ ap (northingKnown _) (y-is (c .before .before .before .before .before .before))
 
 returns : tie.Need-returns
 unfolding gridOf
@@ -38,10 +38,13 @@ returns-2 c = go _ _ _ _ _ (scale-known-is (c .before .before .before)) (c .befo
 returns-3 : tie.Need-returns-3
 unfolding gridOf
 returns-3 c =
-    let start = c .before .before .before .before .before .before .before in
+    let start = c .before .before .before .before .before .before .before .before in
     go _ _ _ _ _ (scale-known-is (c .before .before .before .before)) (c .before .before .before .if1 .left)
     (go _ _ _ _ _ (northing-is (c .before .before)) (c .before .if2 .left)
     (c .grid-at .ensures ∙ both-same (gridAt _) (xp-is (c .before .before .before .before .before)) (y-is start)))
+
+origin-of-requires : tie.Need-origin-of-requires
+origin-of-requires c κs = search needs
 
 x-prime-requires : tie.Need-x-prime-requires
 x-prime-requires c κs = search needs
@@ -54,13 +57,14 @@ northing-known-requires c κs = search needs
 
 grid-at-requires : tie.Need-grid-at-requires
 grid-at-requires c κs =
-    let p = c .before .before .before .before .before .before .pre in
+    let p = c .before .before .before .before .before .before .before .pre in
     (p, kept _ _ (c .before .before .before .scale-known .ensures) (c .before .before .if1 .left), kept _ _ (c .before .northing-known .ensures) (c .if2 .left))
 
 pub convergence-spec : {M : Type 1} → statement M
 convergence-spec =
     tie.close
     (tie.spec
+    origin-of-requires
     x-prime-requires
     scale-known-requires
     returns

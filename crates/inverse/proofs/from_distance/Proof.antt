@@ -71,12 +71,12 @@ size-requires : tie.Need-size-requires
 size-requires c κs =
     let xp : toZ w64 (ofZ w64 (c .before .args .xp)) ≡ c .before .args .xp = search needs in
     let p = c .before .pre in
-    size-small xp (le-trans (easting-within _ _ (p .1) .most) (le-trans (easting-span _ (p .0 .passes)) (lit≤ tt)))
+    size-small xp (le-trans (easting-within _ _ (p .2) .most) (le-trans (easting-span _ (p .0 .passes)) (lit≤ tt)))
 
 approximate-of-requires : tie.Need-approximate-of-requires
 approximate-of-requires c κs =
     let p = c .before .before .pre in
-    (p .0, rw (x-is c) (easting-within _ _ (p .1)), p .2, p .3)
+    (p .0, rw (x-is c) (easting-within _ _ (p .2)), p .3, p .4)
 
 cast-size-known : tie.Need-cast-size-known
 cast-size-known c = search needs
@@ -89,7 +89,7 @@ size-of-requires c κs =
     let p = c .before .before .before .before .before .before .pre in
     let approximate = c .before .before .before .approximate-of in
     let known = rw (held-size w64 (approximate .ensures .1) tt .is) at (kept _ _ (c .before .size-known .ensures) (c .if1 .left)) in
-    (p .0, rw (x-is (c .before .before .before .before)) (easting-within _ _ (p .1)), p .2, p .3, approximate .ensures .0, known, approximate .ensures .2)
+    (p .0, rw (x-is (c .before .before .before .before)) (easting-within _ _ (p .2)), p .3, p .4, approximate .ensures .0, known, approximate .ensures .2)
 
 size-known-requires-2 : tie.Need-size-known-requires-2
 size-known-requires-2 c κs = search needs
@@ -100,7 +100,7 @@ geographic-at-requires c κs =
     let p = start .pre in
     let size = c .before .before .before in
     let known = rw (size-bits size) at (kept _ _ (c .before .size-known2 .ensures) (c .if2 .left)) in
-    (p .0, p .2, p .3, rw (xp-is start) (size-is size), known, rw (xp-is start) (half-is size))
+    (p .0 .passes, p .1, p .3, p .4, rw (xp-is start) (size-is size), known, rw (xp-is start) (half-is size))
 
 pub from-distance-spec : {M : Type 1} → statement M
 from-distance-spec =

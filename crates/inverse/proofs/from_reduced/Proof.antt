@@ -41,7 +41,7 @@ row-with-next-requires c κs =
     let start = c .before .before .before in
     let p = start .pre in
     let known = kept _ _ (c .before .reduced-known .ensures) (c .if1 .left) in
-    (p .0, reduced-reach _ _ known .0, rw (reduced-is start) (p .2))
+    (p .0, reduced-reach _ _ known .0, rw (reduced-is start) (p .3))
 
 seconds-past-requires : tie.Need-seconds-past-requires
 unfolding rowOf
@@ -56,7 +56,7 @@ from-distance-requires c κs =
     let start = c .before .before .before .before .before .before in
     let p = start .pre in
     let known = kept _ _ (c .before .before .before .before .reduced-known .ensures) (c .before .before .before .if1 .left) in
-    (p .0, rw (xp-is start) (p .1), next-there _ (p .0 .passes) _ known _ (c .before .before .row-with-next .ensures), c .before .seconds-past .ensures .1)
+    (p .0, p .1, rw (xp-is start) (p .2), next-there _ (p .0 .passes) _ known _ (c .before .before .row-with-next .ensures), c .before .seconds-past .ensures .1)
 
 pub from-reduced-spec : {M : Type 1} → statement M
 from-reduced-spec =

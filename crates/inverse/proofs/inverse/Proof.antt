@@ -20,27 +20,27 @@ x-is c = search needs
 y-is : (c : tie.Start) → toZ w32 (ofZ w32 (c .args .y)) ≡ c .args .y
 y-is c = search needs
 
-xp-is : (c : tie.After-x-prime) → toZ w64 (ofZ w64 (c .x-prime .result)) ≡ xPrime (now (c .before .before .args .s)) (c .before .before .args .x)
-xp-is c = bits-is (c .x-prime .ok) ∙ c .x-prime .ensures .0 ∙ ap (xPrime _) (x-is (c .before .before))
+xp-is : (c : tie.After-x-prime) → toZ w64 (ofZ w64 (c .x-prime .result)) ≡ xPrime (now (c .before .before .before .args .s)) (c .before .before .before .args .x)
+xp-is c = bits-is (c .x-prime .ok) ∙ c .x-prime .ensures .0 ∙ ap (xPrime _) (x-is (c .before .before .before))
 
-easting-known-is : (c : tie.After-easting-known) → let args = c .before .before .before .args in c .easting-known .result ≡ eastingKnown (now (args .s)) (xPrime (now (args .s)) (args .x))
+easting-known-is : (c : tie.After-easting-known) → let args = c .before .before .before .before .args in c .easting-known .result ≡ eastingKnown (now (args .s)) (xPrime (now (args .s)) (args .x))
 easting-known-is c = c .easting-known .ensures ∙ ap (eastingKnown _) (xp-is (c .before))
 
-northing-is : (c : tie.After-northing-known) → let args = c .before .before .before .before .before .args in c .northing-known .result ≡ northingKnown (now (args .s)) (args .y)
-northing-is c = c .northing-known .ensures ∙ ap (northingKnown _) (y-is (c .before .before .before .before .before))
+northing-is : (c : tie.After-northing-known) → let args = c .before .before .before .before .before .before .args in c .northing-known .result ≡ northingKnown (now (args .s)) (args .y)
+northing-is c = c .northing-known .ensures ∙ ap (northingKnown _) (y-is (c .before .before .before .before .before .before))
 
 module _ (c : tie.After-reduced-northing) where
   reduced-bits : toZ w64 (ofZ w64 (c .reduced-northing .result .value)) ≡ c .reduced-northing .result .value
   reduced-bits = search needs
 
-  x-size : let args = c .before .before .before .before .before .before .before .before .args in c .before .size .result ≡ natAbs (xPrime (now (args .s)) (args .x))
+  x-size : let args = c .before .before .before .before .before .before .before .before .before .args in c .before .size .result ≡ natAbs (xPrime (now (args .s)) (args .x))
   x-size = c .before .size .ensures ∙ ap natAbs (xp-is (c .before .before .before .before .before .before))
 
-  reduced-is : let args = c .before .before .before .before .before .before .before .before .args in toZ w64 (ofZ w64 (c .reduced-northing .result .value)) ≡ reducedNorthing (now (args .s)) (natAbs (xPrime (now (args .s)) (args .x))) (args .y)
-  reduced-is = reduced-bits ∙ c .reduced-northing .ensures .0 ∙ rw (x-size, y-is (c .before .before .before .before .before .before .before .before))
+  reduced-is : let args = c .before .before .before .before .before .before .before .before .before .args in toZ w64 (ofZ w64 (c .reduced-northing .result .value)) ≡ reducedNorthing (now (args .s)) (natAbs (xPrime (now (args .s)) (args .x))) (args .y)
+  reduced-is = reduced-bits ∙ c .reduced-northing .ensures .0 ∙ rw (x-size, y-is (c .before .before .before .before .before .before .before .before .before))
 
-  half-is : let args = c .before .before .before .before .before .before .before .before .args in c .reduced-northing .result .half ≡ reducedHalf (now (args .s)) (natAbs (xPrime (now (args .s)) (args .x))) (args .y)
-  half-is = c .reduced-northing .ensures .2 ∙ rw (x-size, y-is (c .before .before .before .before .before .before .before .before))
+  half-is : let args = c .before .before .before .before .before .before .before .before .before .args in c .reduced-northing .result .half ≡ reducedHalf (now (args .s)) (natAbs (xPrime (now (args .s)) (args .x))) (args .y)
+  half-is = c .reduced-northing .ensures .2 ∙ rw (x-size, y-is (c .before .before .before .before .before .before .before .before .before))
 
 returns : tie.Need-returns
 unfolding inverseOf
@@ -58,6 +58,9 @@ returns-3 c =
     (go _ _ _ _ _ (northing-is (found .before .before .before)) (found .before .before .if2 .left)
     (c .from-reduced .ensures ∙ rw (xp-is (found .before .before .before .before .before .before), reduced-is found, half-is found)))
 
+origin-of-requires : tie.Need-origin-of-requires
+origin-of-requires c κs = search needs
+
 x-prime-requires : tie.Need-x-prime-requires
 x-prime-requires c κs = search needs
 
@@ -72,21 +75,23 @@ size-requires c κs = let xp = c .before .before .before .before .x-prime in bit
 
 reduced-northing-requires : tie.Need-reduced-northing-requires
 reduced-northing-requires c κs =
-    let p = c .before .before .before .before .before .before .before .pre in
+    let p = c .before .before .before .before .before .before .before .before .pre in
     let easting = kept _ _ (c .before .before .before .before .easting-known .ensures) (c .before .before .before .if1 .left) in
     (p, rw (c .size .ensures) (easting-within _ _ easting), kept _ _ (c .before .before .northing-known .ensures) (c .before .if2 .left))
 
 from-reduced-requires : tie.Need-from-reduced-requires
 from-reduced-requires c κs =
     let found = c .before in
-    let p = found .before .before .before .before .before .before .before .before .pre in
+    let p = found .before .before .before .before .before .before .before .before .before .pre in
+    let origin = found .before .before .before .before .before .before .before .origin-of .ensures in
     let easting = kept _ _ (found .before .before .before .before .before .easting-known .ensures) (found .before .before .before .before .if1 .left) in
-    (p, easting, rw (reduced-bits found) (found .reduced-northing .ensures .1))
+    (p, origin, easting, rw (reduced-bits found) (found .reduced-northing .ensures .1))
 
 pub inverse-spec : {M : Type 1} → statement M
 inverse-spec =
     tie.close
     (tie.spec
+    origin-of-requires
     x-prime-requires
     easting-known-requires
     returns

@@ -23,27 +23,27 @@ x-is c = search needs
 y-is : (c : tie.Start) → toZ w32 (ofZ w32 (c .args .y)) ≡ c .args .y
 y-is c = search needs
 
-xp-is : (c : tie.After-x-prime) → toZ w64 (ofZ w64 (c .x-prime .result)) ≡ xPrime (now (c .before .before .args .s)) (c .before .before .args .x)
-xp-is c = bits-is (c .x-prime .ok) ∙ c .x-prime .ensures .0 ∙ ap (xPrime _) (x-is (c .before .before))
+xp-is : (c : tie.After-x-prime) → toZ w64 (ofZ w64 (c .x-prime .result)) ≡ xPrime (now (c .before .before .before .args .s)) (c .before .before .before .args .x)
+xp-is c = bits-is (c .x-prime .ok) ∙ c .x-prime .ensures .0 ∙ ap (xPrime _) (x-is (c .before .before .before))
 
-easting-known-is : (c : tie.After-easting-known) → let args = c .before .before .before .args in c .easting-known .result ≡ eastingKnown (now (args .s)) (xPrime (now (args .s)) (args .x))
+easting-known-is : (c : tie.After-easting-known) → let args = c .before .before .before .before .args in c .easting-known .result ≡ eastingKnown (now (args .s)) (xPrime (now (args .s)) (args .x))
 easting-known-is c = c .easting-known .ensures ∙ ap (eastingKnown _) (xp-is (c .before))
 
-northing-is : (c : tie.After-northing-known) → let args = c .before .before .before .before .before .args in c .northing-known .result ≡ northingKnown (now (args .s)) (args .y)
-northing-is c = c .northing-known .ensures ∙ ap (northingKnown _) (y-is (c .before .before .before .before .before))
+northing-is : (c : tie.After-northing-known) → let args = c .before .before .before .before .before .before .args in c .northing-known .result ≡ northingKnown (now (args .s)) (args .y)
+northing-is c = c .northing-known .ensures ∙ ap (northingKnown _) (y-is (c .before .before .before .before .before .before))
 
 reduced-is : (c : tie.After-reduced-northing)
-    → let args = c .before .before .before .before .before .before .before .before .args in
+    → let args = c .before .before .before .before .before .before .before .before .before .args in
     toZ w64 (ofZ w64 (c .reduced-northing .result .value)) ≡ reducedNorthing (now (args .s)) (natAbs (xPrime (now (args .s)) (args .x))) (args .y)
 reduced-is c =
     let size = c .before .size .ensures ∙ ap natAbs (xp-is (c .before .before .before .before .before .before)) in
     let bits : toZ w64 (ofZ w64 (c .reduced-northing .result .value)) ≡ c .reduced-northing .result .value = search needs in
-    bits ∙ c .reduced-northing .ensures .0 ∙ rw (size, y-is (c .before .before .before .before .before .before .before .before))
+    bits ∙ c .reduced-northing .ensures .0 ∙ rw (size, y-is (c .before .before .before .before .before .before .before .before .before))
 
 -- the first minute and the row are small
 sum-most : (c : tie.After-row-below) → c .before .first-minute .result + c .row-below .result ≤ 6_600
 sum-most c =
-    let p = c .before .before .before .before .before .before .before .before .before .before .before .pre in
+    let p = c .before .before .before .before .before .before .before .before .before .before .before .before .pre in
     omega (arith, c .before .first-minute .ensures .1, c .row-below .ensures .1, latitude-count _ (p .passes))
 
 returns : tie.Need-returns
@@ -64,6 +64,9 @@ returns-3 c =
       omega (arith, sum-most c),
     )
 
+origin-of-requires : tie.Need-origin-of-requires
+origin-of-requires c κs = search needs
+
 x-prime-requires : tie.Need-x-prime-requires
 x-prime-requires c κs = search needs
 
@@ -78,7 +81,7 @@ size-requires c κs = let xp = c .before .before .before .before .x-prime in bit
 
 reduced-northing-requires : tie.Need-reduced-northing-requires
 reduced-northing-requires c κs =
-    let p = c .before .before .before .before .before .before .before .pre in
+    let p = c .before .before .before .before .before .before .before .before .pre in
     let easting = kept _ _ (c .before .before .before .before .easting-known .ensures) (c .before .before .before .if1 .left) in
     (p, rw (c .size .ensures) (easting-within _ _ easting), kept _ _ (c .before .before .northing-known .ensures) (c .before .if2 .left))
 
@@ -95,6 +98,7 @@ pub plane-minute-spec : {M : Type 1} → statement M
 plane-minute-spec =
     tie.close
     (tie.spec
+    origin-of-requires
     x-prime-requires
     easting-known-requires
     returns

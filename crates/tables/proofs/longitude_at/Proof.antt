@@ -26,16 +26,16 @@ returns : tie.Need-returns
 unfolding bAt bHalf cAt cHalf
 returns c =
     let p = c .before .before .before .before .before .pre in
-    let b = c .before .value-by .ensures in
-    let d = c .value-by2 .ensures in
+    let d = c .before .value-by .ensures in
+    let b = c .value-by2 .ensures in
     (b .0, rw (b .0) (b-between _ (p .0 .passes) _ (p .1)), b .1, d .0, rw (d .0) (c-between _ (p .0 .passes) _ (p .1)), d .1)
 
 returns-2 : tie.Need-returns-2
 unfolding bAt bHalf cAt cHalf
 returns-2 c =
     let p = c .before .before .before .before .before .pre in
-    let b = c .before .value-by3 .ensures in
-    let d = c .value-by4 .ensures in
+    let d = c .before .value-by3 .ensures in
+    let b = c .value-by4 .ensures in
     (b .0, rw (b .0) (b-between _ (p .0 .passes) _ (p .1)), b .1, d .0, rw (d .0) (c-between _ (p .0 .passes) _ (p .1)), d .1)
 
 pub longitude-at-spec : {M : Type 1} → statement M

@@ -22,22 +22,22 @@ x-is c = search needs
 y-is : (c : tie.Start) → toZ w32 (ofZ w32 (c .args .y)) ≡ c .args .y
 y-is c = search needs
 
-xp-is : (c : tie.After-x-prime) → toZ w64 (ofZ w64 (c .x-prime .result)) ≡ xPrime (now (c .before .before .args .s)) (c .before .before .args .x)
-xp-is c = bits-is (c .x-prime .ok) ∙ c .x-prime .ensures .0 ∙ ap (xPrime _) (x-is (c .before .before))
+xp-is : (c : tie.After-x-prime) → toZ w64 (ofZ w64 (c .x-prime .result)) ≡ xPrime (now (c .before .before .before .args .s)) (c .before .before .before .args .x)
+xp-is c = bits-is (c .x-prime .ok) ∙ c .x-prime .ensures .0 ∙ ap (xPrime _) (x-is (c .before .before .before))
 
-easting-known-is : (c : tie.After-easting-known) → let args = c .before .before .before .args in c .easting-known .result ≡ eastingKnown (now (args .s)) (xPrime (now (args .s)) (args .x))
+easting-known-is : (c : tie.After-easting-known) → let args = c .before .before .before .before .args in c .easting-known .result ≡ eastingKnown (now (args .s)) (xPrime (now (args .s)) (args .x))
 easting-known-is c = c .easting-known .ensures ∙ ap (eastingKnown _) (xp-is (c .before))
 
-northing-is : (c : tie.After-northing-known) → let args = c .before .before .before .before .before .args in c .northing-known .result ≡ northingKnown (now (args .s)) (args .y)
-northing-is c = c .northing-known .ensures ∙ ap (northingKnown _) (y-is (c .before .before .before .before .before))
+northing-is : (c : tie.After-northing-known) → let args = c .before .before .before .before .before .before .args in c .northing-known .result ≡ northingKnown (now (args .s)) (args .y)
+northing-is c = c .northing-known .ensures ∙ ap (northingKnown _) (y-is (c .before .before .before .before .before .before))
 
 reduced-is : (c : tie.After-reduced-northing)
-    → let args = c .before .before .before .before .before .before .before .before .args in
+    → let args = c .before .before .before .before .before .before .before .before .before .args in
     toZ w64 (ofZ w64 (c .reduced-northing .result .value)) ≡ reducedNorthing (now (args .s)) (natAbs (xPrime (now (args .s)) (args .x))) (args .y)
 reduced-is c =
     let size = c .before .size .ensures ∙ ap natAbs (xp-is (c .before .before .before .before .before .before)) in
     let bits : toZ w64 (ofZ w64 (c .reduced-northing .result .value)) ≡ c .reduced-northing .result .value = search needs in
-    bits ∙ c .reduced-northing .ensures .0 ∙ rw (size, y-is (c .before .before .before .before .before .before .before .before))
+    bits ∙ c .reduced-northing .ensures .0 ∙ rw (size, y-is (c .before .before .before .before .before .before .before .before .before))
 
 returns : tie.Need-returns
 unfolding inverseTouched
@@ -55,6 +55,9 @@ returns-3 c =
     (go _ _ _ _ _ (northing-is (found .before .before .before)) (found .before .before .if2 .left)
     (beside-is _ _ _ _ (reduced-is found) _ _ (c .before .above-prior .ensures) (c .below-next .ensures)))
 
+origin-of-requires : tie.Need-origin-of-requires
+origin-of-requires c κs = search needs
+
 x-prime-requires : tie.Need-x-prime-requires
 x-prime-requires c κs = search needs
 
@@ -69,7 +72,7 @@ size-requires c κs = let xp = c .before .before .before .before .x-prime in bit
 
 reduced-northing-requires : tie.Need-reduced-northing-requires
 reduced-northing-requires c κs =
-    let p = c .before .before .before .before .before .before .before .pre in
+    let p = c .before .before .before .before .before .before .before .before .pre in
     let easting = kept _ _ (c .before .before .before .before .easting-known .ensures) (c .before .before .before .if1 .left) in
     (p .0, rw (c .size .ensures) (easting-within _ _ easting), kept _ _ (c .before .before .northing-known .ensures) (c .before .if2 .left))
 
@@ -83,6 +86,7 @@ pub may-move-earth-spec : {M : Type 1} → statement M
 may-move-earth-spec =
     tie.close
     (tie.spec
+    origin-of-requires
     x-prime-requires
     easting-known-requires
     returns

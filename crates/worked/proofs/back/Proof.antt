@@ -24,6 +24,9 @@ slice-aggregate-print-line c = search needs
 print-line-requires : tie.Need-print-line-requires
 print-line-requires c κs = search needs
 
+origin-of-requires : tie.Need-origin-of-requires
+origin-of-requires c κs = search needs
+
 x-prime-requires : tie.Need-x-prime-requires
 x-prime-requires c κs = search needs
 
@@ -38,7 +41,7 @@ size-requires c κs = let xp = c .before .before .before .before .x-prime in bit
 
 show-reduction-requires : tie.Need-show-reduction-requires
 show-reduction-requires c κs =
-    let p = c .before .before .before .before .before .before .before .before .before .before .before .before .pre in
+    let p = c .before .before .before .before .before .before .before .before .before .before .before .before .before .pre in
     let there = kept _ _ (c .before .before .before .before .easting-known .ensures) (c .before .before .before .if1 .left) in
     (p, rw (c .size .ensures) (easting-within _ _ there), kept _ _ (c .before .before .northing-known .ensures) (c .before .if2 .left))
 
@@ -49,6 +52,7 @@ back-spec =
     plane-to-geographic-requires
     slice-aggregate-print-line
     print-line-requires
+    origin-of-requires
     x-prime-requires
     easting-known-requires
     returns
