@@ -53,8 +53,8 @@ fn y_of(s: &[u8], p: Places, t: u64, size: u64, c: Rounded) -> Rounded
     requires { ⌜ KnownToPass (now s) p × Within (now s) latitude t × Within (now s) longitude size × (c .value ≡ cAt (now s) size) × (c .half ≡ cHalf (now s) size) ⌝ }
     ensures { λ r. ⌜ (r .value ≡ yOf (now (s .entry)) t size) × (natAbs (r .value) ≤ 1_000_504_199) × (r .half ≡ yHalf (now (s .entry)) t size) ⌝ }
 {
-    let q = steps::q_of(size);
     let v = tables::v_at(s, p, t);
+    let q = steps::q_of(size);
     let y0 = tables::y0_at(s, p, t);
     let rise = steps::rise(v.value, q.value, c.value);
     Rounded {

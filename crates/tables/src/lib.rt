@@ -239,8 +239,8 @@ pub struct Longitude {
     pub c: Rounded,
 }
 
-// b and c at a size of L. Here and below the usual step is tested for, and given as a constant. Each function has its own test: one function with a test for all of them would be
-// too large to be compiled in where it is called, and there the step would be no constant.
+// b and c at a size of L; c is read first, since a forward point was quicker so. Here and below the usual step is tested for, and given as a constant. Each function has its own test: one
+// function with a test for all of them would be too large to be compiled in where it is called, and there the step would be no constant.
 pub fn longitude_at(s: &[u8], p: Places, size: u64) -> Longitude
     requires { ⌜ KnownToPass (now s) p × Within (now s) longitude size ⌝ }
     ensures { λ r. ⌜ (r .b .value ≡ bAt (now (s .entry)) size) × (natAbs (r .b .value) ≤ mostB) × (r .b .half ≡ bHalf (now (s .entry)) size) × (r .c .value ≡ cAt (now (s .entry)) size) × (natAbs (r .c .value) ≤ mostC) × (r .c .half ≡ cHalf (now (s .entry)) size) ⌝ }

@@ -27,7 +27,7 @@ module _ (c : tie.After-rise) where
       let start = c .before .before .before .before .before .before in
       let p = start .pre in
       let bits : toZ w64 (ofZ w64 (c .rise .result .value)) ≡ c .rise .result .value = search needs in
-      let e = rise-worked _ _ _ (c .before .before .before .v-at .ensures .0) (c .before .before .before .before .q-of .ensures .0) (c-is start) (p .3) in
+      let e = rise-worked _ _ _ (c .before .before .before .before .v-at .ensures .0) (c .before .before .before .q-of .ensures .0) (c-is start) (p .3) in
       record { is = bits ∙ c .rise .ensures .0 ∙ e; size = y-rise _ (p .0 .passes) _ (p .1) _ (p .2) }
 
   y0-is : Holds w64 (ofZ w64 (c .before .before .y0-at .result .value)) (y0At (now (c .before .before .before .before .before .before .args .s)) (c .before .before .before .before .before .before .args .t)) 999_999_999
@@ -42,16 +42,16 @@ returns c =
     let worked = c .before .before .before .before .before .before .before .before .before in
     let start = worked .before .before .before .before .before .before in
     let p = start .pre in
-    let v = worked .before .before .before .v-at in
-    let q = worked .before .before .before .before .q-of in
+    let v = worked .before .before .before .before .v-at in
+    let q = worked .before .before .before .q-of in
     let whole = sum (y0-is worked) (rise-is worked) tt in
     (whole .is, rw (whole .is) (whole .size), y-marked _ _ _ (v .ensures .0) (q .ensures .0) (c-is start) (p .3) (worked .before .before .y0-at .ensures .2) (v .ensures .2) (p .4) (q .ensures .1) (worked .rise .ensures .1))
 
-q-of-requires : tie.Need-q-of-requires
-q-of-requires c κs = let p = c .before .pre in s-most _ (p .0 .passes) _ (p .1) _ (p .2)
-
 v-at-requires : tie.Need-v-at-requires
 v-at-requires c κs = search needs
+
+q-of-requires : tie.Need-q-of-requires
+q-of-requires c κs = let p = c .before .before .pre in s-most _ (p .0 .passes) _ (p .1) _ (p .2)
 
 y0-at-requires : tie.Need-y0-at-requires
 y0-at-requires c κs = search needs
@@ -60,12 +60,12 @@ rise-requires : tie.Need-rise-requires
 rise-requires c κs =
     let start = c .before .before .before .before .before in
     let p = start .pre in
-    let q : c .before .before .before .q-of .result .value ≤ mostQ = rw (c .before .before .before .q-of .ensures .0) (q-most _ (s-most _ (p .0 .passes) _ (p .1) _ (p .2))) in
-    (c .before .before .v-at .ensures .1, q, rw (c-is start, p .3) (c-between _ (p .0 .passes) _ (p .2)))
+    let q : c .before .before .q-of .result .value ≤ mostQ = rw (c .before .before .q-of .ensures .0) (q-most _ (s-most _ (p .0 .passes) _ (p .1) _ (p .2))) in
+    (c .before .before .before .v-at .ensures .1, q, rw (c-is start, p .3) (c-between _ (p .0 .passes) _ (p .2)))
 
 add-t10 : tie.Need-add-t10
 add-t10 c = sum-fits (y0-is (c .before .before .before .before)) (rise-is (c .before .before .before .before)) tt
 
 pub y-of-spec : {M : Type 1} → statement M
 y-of-spec =
-    tie.close (tie.spec q-of-requires v-at-requires y0-at-requires rise-requires add-t10 returns)
+    tie.close (tie.spec v-at-requires q-of-requires y0-at-requires rise-requires add-t10 returns)
