@@ -30,7 +30,8 @@ static uint32_t latitude_row(const uint8_t *b, size_t n, size_t i) {
     int64_t next = word(b, 8 * i + 8), y0n = word(b, 8 * i + 9), hn = word(b, 8 * i + 11), vn = word(b, 8 * i + 13), an = word(b, 8 * i + 15);
     if (next != minute + 1) return 7;
     if (!within(600000, y0n - y0, 615000) || !within(1, h - hn, 50000) || !within(-1000, vn - v, 1000) || !within(-10, an - a, 10)) return 8;
-    if (dy != nearest(1000 * (y0n - y0), 60) || dh != nearest(100 * (h - hn), 60) || dv != nearest(100 * (vn - v), 60)) return 9;
+    // 60 times the nearest lies within 30; it lies whole twenties away, so no other does
+    if (!within(-30, 60 * dy - 1000 * (y0n - y0), 30) || !within(-30, 60 * dh - 100 * (h - hn), 30) || !within(-30, 60 * dv - 100 * (vn - v), 30)) return 9;
     return 0;
 }
 
