@@ -36,7 +36,7 @@ entryFault f s e =
     (need (eqb (startAt f s e) (dueAt f s e)) 5
     0)))
 
--- False exactly where 5 is due: "the bodies' end is not the sheet's end". So "the final body ends the sheet".
+-- Whether the bodies' end is the sheet's end: "the final body ends the sheet". If it is not, and no entry has a fault, 5 is due.
 abbrev pub ends : Form → List ℕ → Bool
 ends f s = eqb (4 * dueAt f s (f .kinds)) (length s)
 
@@ -51,11 +51,11 @@ contentsBy f s =
     (need (ends f s) (verdict 5 0 (f .kinds + 1))
     (verdict 0 0 0))
 
--- False exactly where 1 is due: "sheet under 76 bytes, over 65,532, or not a multiple of 4". 76 bytes are the contents of 01's form.
+-- False exactly where 1 is due: "sheet under 76 bytes, over 65,532, or not a multiple of 4". 76 bytes are the contents of today's form.
 unfoldable pub sized : List ℕ → Bool
 sized s = within (leastBytes (formOf s)) (length s) mostBytes && eqb (length s % 4) 0
 
--- "Order: 1; word 0; each entry by 2, 3, 4, start; the end". "A fault of length, word 0 or contents answers kind 0 and" as place "0 for length and word 0". 2 is for "word 0 not 6" too.
+-- "Order: 1; word 0; each entry by 2, 3, 4, start; the end". A fault of length or word 0 answers kind 0 and row 0; "word 0 not 6" is number 2.
 unfoldable pub contentsOf : List ℕ → Verdict
 contentsOf s =
     need (sized s) (verdict 1 0 0)

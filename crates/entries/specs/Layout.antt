@@ -29,14 +29,14 @@ firstEntry = 1
 abbrev pub entryWords : ℕ
 entryWords = 3
 
--- No form has more kinds than this, nor an entry more words. These are bounds for those who read entries; a fourth word is left for a later form.
+-- The most kinds of a form, and the most words of an entry: bounds for those who read entries. Today's entry has three words; a fourth is left for a later form.
 abbrev pub mostKinds : ℕ
 mostKinds = 6
 
 abbrev pub mostWords : ℕ
 mostWords = 4
 
--- What every form keeps.
+-- What every form keeps, one with fewer kinds too.
 pub record Small (f : Form) : Type 0 where
   pub some : 1 ≤ f .kinds
   pub few : f .kinds ≤ mostKinds
@@ -65,7 +65,8 @@ pub record HasContents (f : Form) (s : List ℕ) : Type 0 where
   pub long : leastBytes f ≤ length s
 
 -- ---- the kinds
--- "Kinds 1 to 6 appear once each in any order": each entry names one of the form's kinds, and none a second time, so the entries name them all. Every form has the kinds 1 to this one.
+-- "Kinds 1 to 6 appear once each in any order": each entry names one of the form's kinds, and none a second time, so the entries name them all.
+-- The form that word 0 names has the kinds 1 to this one.
 abbrev pub lastKind : ℕ
 lastKind = 6
 

@@ -26,8 +26,8 @@ lOf s west = centralMeridian s -ℤ west
 unfoldable pub sizeKnown : List ℕ → ℤ → Bool
 sizeKnown s size = withinRows (rowsOf s longitude) (stepOf s longitude) size
 
--- For 11 of geographic to plane: "longitude outside 0 to 648,000,000, or the size of L (given ..) above the last kind 3 row". "s is the size of L." A longitude within the rows of
--- kind 3 is never outside 0 to 648,000,000, since a central meridian lies 6,000″ or more from both; so plane to geographic, whose longitude is worked, has no such test.
+-- For 11 of geographic to plane: "longitude outside 0 to 648,000,000, or the size of L (given ..) above the last kind 3 row". A longitude whose L lies within
+-- kind 3's rows is never outside 0 to 648,000,000, since a central meridian lies at least 6,000″ inside both ends; so plane to geographic, whose longitude is worked, has no such test.
 unfoldable pub longitudeKnown : List ℕ → ℤ → Bool
 longitudeKnown s west = (leZ (pos 0) west && leZ west (pos 648_000_000)) && sizeKnown s (pos (natAbs (lOf s west)))
 

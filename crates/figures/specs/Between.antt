@@ -17,6 +17,6 @@ between u w t step = nearest (exactBetween u w t step) step
 unfoldable pub betweenHalf : ℤ → ℤ → ℕ → ℕ → Bool
 betweenHalf u w t step = onHalf (exactBetween u w t step) step
 
--- A figure from n, which is the figure raised by 2³¹: raised, every figure of a word is a size.
+-- The figure that n stands for, where n is the figure plus 2³¹: so no word's n is negative.
 unfoldable pub lowered : ℕ → ℤ
 lowered n = pos n -ℤ pos 2_147_483_648

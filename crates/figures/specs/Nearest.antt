@@ -9,7 +9,7 @@ unfoldable pub withSign : ℤ → ℤ → ℤ
 withSign (pos l) size = size
 withSign (negsuc l) size = negℤ size
 
--- The nearest whole number to n/d where n is a size: n/d + 1/2, rounded down, so that a half goes up.
+-- The nearest whole number to n/d where n is a size and d is above 0: n/d + 1/2, rounded down, so that a half goes up.
 unfoldable pub nearestSize : ℕ → ℕ → ℕ
 nearestSize n d = (2 * n + d) / (2 * d)
 
@@ -18,7 +18,7 @@ unfoldable pub nearest : ℤ → ℕ → ℤ
 nearest n d = withSign n (pos (nearestSize (natAbs n) d))
 
 -- "whether their exact value was a half", of n/d where n is a size and d is above 0: twice the rest of the division is d. `promises` has the theorem that this
--- is so exactly where 2n/d is a whole odd number.
+-- is so exactly where 2n/d is a whole odd number. The words on halves that are quoted here and in the other crates are those of the request for the mark.
 unfoldable pub onHalfSize : ℕ → ℕ → Bool
 onHalfSize n d = eqb (2 * (n % d)) d
 

@@ -1,2 +1,2 @@
--- The definition of geographic to plane, by 01's steps.
+-- The definition of geographic to plane, by the paper's steps.
 pub mod Forward

@@ -1,2 +1,2 @@
--- The definition of convergence and scale, by 01's steps.
+-- The definition of convergence and scale, by the paper's steps.
 pub mod Grid

@@ -1,2 +1,2 @@
--- The definition of plane to geographic, by 01's steps.
+-- The definition of plane to geographic, by the paper's steps.
 pub mod Inverse

@@ -8,7 +8,7 @@ use lib.Signed.{leZ}
 use Rattle.figures.specs.Between.{between, betweenHalf}
 use Rattle.words.specs.Words.{wordAt}
 
--- The figure in row i of a column, for a body of so many words in a row. `number` is the column's; rows and columns count from 0.
+-- The figure in row i of a column: `width` is the words in a row, `number` the column's number. Rows and columns count from 0.
 abbrev pub column : List ℕ → ℕ → ℕ → ℕ → ℤ
 column body width number i = wordAt body (width * i + number)
 

@@ -1,7 +1,7 @@
 -- The fault of a latitude row. b is the body: the part of the sheet that holds its n rows; i is the row, counted from 0. A fault is a number, 0 for none.
 -- "in each row 6, 7, 8, 9, where 7 to 9 look at the next row": 6 "a figure outside its range"; 7 "next minute not one more"; 8 "a row difference outside its
 -- bounds"; 9 "Δy, ΔH or ΔV not as stated". The figures stand in the order of the table of kinds, with its units and ranges.
--- "No word may be missing": the contents, by 4 and 5, see to it that the body holds every word of its rows; "zero is a figure like any other": a 0 is judged by
+-- "No word may be missing": 5 sees to it that the body holds every word of its rows; "zero is a figure like any other": a 0 is judged by
 -- its range alone.
 use mathlib.Core.Bool.{Bool, _&&_}
 use mathlib.Core.List.{List}

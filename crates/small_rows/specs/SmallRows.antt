@@ -1,7 +1,7 @@
--- The faults of a row of the small bodies, kind by kind. b is the body: the part of the sheet that holds its n rows; i is the row, counted from 0. Each fault is a number, 0 for none:
--- 6 "a figure outside its range"; 8 "a row difference outside its bounds". "row 0 is 0" is a range too, so 6.
--- The figures stand in the order of the table of kinds, with its units and ranges; in the quotes b is a figure of kind 3. The steps of the tables are for those who read between
--- their rows.
+-- The faults of a row of the small bodies, all but latitude, kind by kind. b is the body: the part of the sheet that holds its n rows; i is the row, counted from 0.
+-- Each fault is a number, 0 for none: 6 "a figure outside its range"; 8 "a row difference outside its bounds". "row 0 is 0" is a range too, so 6.
+-- The figures stand in the order of the table of kinds, with its units and ranges; in the quotes b is a figure of kind 3. The quotes leave out the steps,
+-- which only reading between rows needs.
 use mathlib.Core.Bool.{Bool, true}
 use mathlib.Core.List.{List}
 use Prim.Native.Nat.{ℕ, _+_, _*_}
@@ -11,7 +11,7 @@ use Rattle.words.specs.Ladder.{need, whereBelow}
 use Rattle.entries.specs.Layout.{zone, longitude, northing, easting, scale, widthOf}
 use Rattle.rules.specs.Limits.{inRange, rises}
 
--- The figure is 0 in row 0; in a later row it may be any.
+-- Whether the figure x may stand in row i: in row 0 only 0 may, in a later row any.
 unfoldable pub zeroFirst : ℤ → ℕ → Bool
 zeroFirst x i = whereBelow 0 i true (inRange (pos 0) x (pos 0))
 

@@ -96,6 +96,7 @@ convergenceHalf m x = onHalf (exactConvergence m x) 100_000_000
 -- ---- a sheet's per-second columns
 
 -- "Δy, ΔH and ΔV are the differences over 60 seconds: nearest whole to 1000(y0 next − y0)/60, 100(H − H next)/60, 100(V next − V)/60".
--- The scale is 1000 for Δy and 100 for the others; the difference is the next row's figure less this one's, and for ΔH this one's less the next. "(no half can occur)"
+-- The scale is 1000 for Δy and 100 for the others; the difference is the next row's figure less this one's, and for ΔH this one's less the next.
+-- With these scales the fraction has thirds only, "(no half can occur)", so there is no `..Half`.
 unfoldable pub perSecond : ℕ → ℤ → ℤ
 perSecond scale difference = nearest (pos scale *ℤ difference) 60

@@ -21,7 +21,7 @@ figureAt s kind number offset = valueAt (figureOf s kind number) (stepOf s kind)
 abbrev pub latitudeAt : List ℕ → ℕ → ℕ → ℤ
 latitudeAt s number t = valueAt (figureOf s latitude number) oneMinute t
 
--- Whether it was rounded from a half. `y0Half`, `hHalf` and so on, below, say so of the figure above them.
+-- Whether `figureAt` was rounded from a half; `latitudeHalf` says so of `latitudeAt`, and `y0Half`, `hHalf` and so on, below, of the figure above them.
 abbrev pub figureHalf : List ℕ → ℕ → ℕ → ℕ → Bool
 figureHalf s kind number offset = valueHalf (figureOf s kind number) (stepOf s kind) offset
 
