@@ -76,8 +76,8 @@ longitudeOf s xp t = centralMeridian s -ℤ withSign xp (sizeOf s (natAbs xp) t)
 unfoldable pub geographicAt : List ℕ → ℤ → ℕ → Bool → Geographic
 geographicAt s xp t met = geographic 0 (firstLatitude s +ℤ pos t) (longitudeOf s xp t) (met || sizeHalf s (natAbs xp) t)
 
--- "inverse 12, 13, 14, 11", on a sheet that passes, in three parts, written last part first: `inverseOf` goes on to `fromReduced`, and that to `fromDistance`. From the latitude on: 11, where "the size of L (.. approximate or
--- final)" is "above the last kind 3 row".
+-- "inverse 12, 13, 14, 11", on a sheet that passes, in three parts, written last part first: `inverseOf` goes on to `fromReduced`, and that to `fromDistance`.
+-- From the latitude on: 11, where "the size of L (.. approximate or final)" is "above the last kind 3 row".
 unfoldable pub fromDistance : List ℕ → ℤ → ℕ → Bool → Geographic
 fromDistance s xp t met =
     need (sizeKnown s (pos (approximateOf s (natAbs xp) t))) (noGeographic 11)
