@@ -13,7 +13,7 @@ withSign (negsuc l) size = negℤ size
 unfoldable pub nearestSize : ℕ → ℕ → ℕ
 nearestSize n d = (2 * n + d) / (2 * d)
 
--- "Nearest" sends an exact half away from zero: the nearest to the sizes' quotient, with the sign of n.
+-- "Nearest" sends an exact half away from zero: the nearest to the sizes' quotient, with the sign of n. d is above 0 here too.
 unfoldable pub nearest : ℤ → ℕ → ℤ
 nearest n d = withSign n (pos (nearestSize (natAbs n) d))
 
