@@ -6,7 +6,6 @@ use mathlib.Core.Logic.{_⊎_, inl, inr}
 use Prim.Native.Nat.{ℕ, _+_, _-_, _*_, _<_, _≤_}
 use native.Mathlib.Decide.{ℕ-discrete, decLt}
 use native.Mathlib.Omega.{arith}
-use lib.Dec.{lit<}
 use lib.IntN.{ℤ, pos, natAbs, _-ℤ_, +ℤ-invr}
 use lib.Signed.{leZ}
 use Rattle.figures.specs.Nearest.{nearestSize, onHalfSize}
@@ -16,14 +15,12 @@ use Rattle.figures.proofs.Rounding.{nearestSize-most}
 use Rattle.figures.proofs.Halves.{multiple-no-half}
 use Rattle.words.specs.Ladder.{need, whereBelow}
 use Rattle.words.proofs.Refusals.{where-below, where-beyond}
-use Rattle.rules.specs.Latitude.{leastRise, mostRise}
 use Rattle.entries.specs.Layout.{latitude, oneMinute}
 use Rattle.entries.specs.Entries.{rowsOf}
 use Rattle.bodies.specs.Check.{checkOf}
 use Rattle.row_search.specs.Rows.{Rising}
-use Rattle.row_search.proofs.Rising.{rises-rising}
 use Rattle.tables.specs.Figures.{y0Of}
-use Rattle.tables.proofs.Ranges.{y0-rises}
+use Rattle.tables.proofs.Ranges.{y0-rising}
 use Rattle.extent.specs.Extent.{fromFirst, latitudeKnown, lOf, longitudeKnown, xPrime, eastingKnown, northingKnown, reducedKnown}
 use Rattle.extent.proofs.Reach.{reduced-reach}
 use Rattle.forward.specs.Forward.{xSize, xOf, xHalf, yOf, yHalf, planeAt, planeFrom, forwardOf}
@@ -198,10 +195,10 @@ module _ (s t : List ℕ) (r : ℕ) (same : Beside s t r) (there : r < rowsOf s 
   rows = rowsOf s latitude
 
   up : Rising (y0Of s) rows
-  up = rises-rising (y0Of s) rows leastRise mostRise (y0-rises s ok) (lit< tt)
+  up = y0-rising s ok
 
   up′ : Rising (y0Of t) rows
-  up′ = rw (latitude-rows s t r same) at (rises-rising (y0Of t) (rowsOf t latitude) leastRise mostRise (y0-rises t ok′) (lit< tt))
+  up′ = rw (latitude-rows s t r same) at (y0-rising t ok′)
 
   module _ (z : ℤ) (aside : Aside (y0Of s) rows r z) where
     first-test : leZ (y0Of t 0) z ≡ leZ (y0Of s 0) z

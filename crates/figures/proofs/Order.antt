@@ -6,8 +6,8 @@ use native.Mathlib.Nat.{le-refl, le-trans, le-of-lt}
 use native.Mathlib.Omega.{arith}
 use lib.Dec.{T, leb, leb·zero, leb·suc-suc, leb·suc-zero}
 use borrow.Author.Tests.{ltb-true, leb-true, le-leb, lt-leb, not-false}
-use lib.IntN.{ℤ, pos, negsuc, sucℤ, predℤ, suc-pred, natAbs, negℤ, _+ℤ_, _-ℤ_, +ℤ-idr, +ℤ-invr, +ℤ-sucℤ, +ℤ-predℤ, +ℤ-comm, -ℤ-+ℤ-cancel}
-use lib.Signed.{leZ, ltZ, nonNeg, pos-natAbs}
+use lib.IntN.{ℤ, pos, negsuc, sucℤ, predℤ, suc-pred, negℤ, _+ℤ_, _-ℤ_, +ℤ-idr, +ℤ-invr, +ℤ-sucℤ, +ℤ-predℤ, +ℤ-comm}
+use lib.Signed.{leZ, ltZ, nonNeg}
 use Rattle.figures.proofs.Ring.{by-steps}
 use Rattle.figures.proofs.Sizes.{leZ-not}
 
@@ -110,7 +110,7 @@ leZ-heights a m n = rw (+ℤ-comm a (pos m), +ℤ-comm a (pos n)) (leZ-shift (po
 pub heights-le : (a : ℤ) {m n : ℕ} → m ≤ n → leZ (a +ℤ pos m) (a +ℤ pos n) ≡ true
 heights-le a {m} {n} h = leZ-heights a m n ∙ le-leb m n h
 
-pub heights-lt : (a : ℤ) {m n : ℕ} → m < n → ltZ (a +ℤ pos m) (a +ℤ pos n) ≡ true
+heights-lt : (a : ℤ) {m n : ℕ} → m < n → ltZ (a +ℤ pos m) (a +ℤ pos n) ≡ true
 heights-lt a {m} {n} h = above-of (a +ℤ pos n) (a +ℤ pos m) (leZ-heights a n m ∙ lt-leb n m h)
 
 -- a number is below itself and a height
@@ -124,7 +124,3 @@ nonNeg-from (negsuc n) e = subst T (sym e) tt
 
 pub difference-nonNeg : (a b : ℤ) → leZ a b ≡ true → T (nonNeg (b -ℤ a))
 difference-nonNeg a b e = nonNeg-from (b -ℤ a) (rw (+ℤ-invr a) at (leZ-shift a b (negℤ a)) ∙ e)
-
--- b is a and the size of b − a
-pub height-is : (a b : ℤ) → leZ a b ≡ true → b ≡ a +ℤ pos (natAbs (b -ℤ a))
-height-is a b e = rw (pos-natAbs (b -ℤ a) (difference-nonNeg a b e), +ℤ-comm a (b -ℤ a)) (sym (-ℤ-+ℤ-cancel b a))

@@ -5,12 +5,10 @@ use native.Mathlib.Nat.{le-trans}
 use native.Mathlib.Omega.{arith}
 use lib.Dec.{lit≤}
 use lib.IntN.{ℤ, pos, negℤ, natAbs, _+ℤ_, _-ℤ_, _*ℤ_, +ℤ-assoc, +ℤ-comm, +ℤ-negℤ-cancel, -ℤ-+ℤ-cancel, negℤ-negℤ, negℤ-+ℤ}
-use lib.Signed.{leZ}
 use mir.Syntax.{w64}
 use mir.Val.{Fits, SFits, toZ, ofZ}
 use Rattle.figures.specs.Between.{exactBetween, lowered}
 use Rattle.figures.specs.Ranges.{mostRow, mostStep, mostNumerator}
-use Rattle.figures.proofs.Order.{leZ-shift}
 use Rattle.figures.proofs.Ring.{times-sum, sum-times, swap-last}
 use Rattle.figures.proofs.Sizes.{product-most}
 use Rattle.figures.proofs.Holds.{Holds, held-size, difference, difference-fits, rebounded, size-most}
@@ -88,13 +86,6 @@ module _ (u w t step : ℕ) (hu : u ≤ mostRow) (hw : w ≤ mostRow) (ht : t �
   less-raise-most = size-most less-raise tt
 
 -- ---- a figure r from its raised word, beside a number z
-raised-back : (r : ℕ) → lowered r +ℤ pos 2_147_483_648 ≡ pos r
-unfolding lowered
-raised-back r = -ℤ-+ℤ-cancel (pos r) (pos 2_147_483_648)
-
-pub raised-not-above : (r : ℕ) (z : ℤ) → leZ (pos r) (z +ℤ pos 2_147_483_648) ≡ leZ (lowered r) z
-raised-not-above r z = rw (← raised-back r) (leZ-shift (lowered r) z (pos 2_147_483_648))
-
 pub raised-height : (r : ℕ) (z : ℤ) → (z +ℤ pos 2_147_483_648) -ℤ pos r ≡ z -ℤ lowered r
 unfolding lowered
 raised-height r z =

@@ -73,7 +73,7 @@ pub fn nearest(n: i64, d: u64) -> Rounded
 }
 
 // What a row's figure is raised by, so that it is read without a sign: −5 is read as 2,147,483,643.
-pub const RAISED: u64 = 2_147_483_648;
+const RAISED: u64 = 2_147_483_648;
 
 // The value on the straight line from one row to the next, a step apart, at an offset t: the first row's figure at 0, the next row's at the step.
 // u and w are the two figures, each raised; the answer is not raised. The sum takes u step − t times and w t times, which is step times in all, so it is too high by RAISED times the step.

@@ -1,71 +1,66 @@
-// The row of a reduced northing, by halving.
+// The row of a reduced northing: a first look by what rows rise, and from there row by row.
 ghost use mathlib.Core.Path.{_≡_};
 ghost use mathlib.Core.Bool.{true};
-ghost use Prim.Native.Nat.{_+_, _*_, _^_, _<_, _≤_, min};
+ghost use Prim.Native.Nat.{_+_, _*_, _^_, _<_, _≤_};
 ghost use lib.ListN.{length};
-ghost use lib.IntN.{pos, natAbs, _+ℤ_};
-ghost use lib.Signed.{leZ, ltZ};
+ghost use lib.IntN.{pos, natAbs};
+ghost use lib.Signed.{leZ};
 ghost use Rattle.words.specs.Words.{wordAt};
-ghost use Rattle.reading.specs.Tables.{column};
-ghost use Rattle.row_search.specs.Rows.{lastNotAbove, RisesBy, Rising};
+ghost use Rattle.reading.specs.Tables.{column, NotNegative};
+ghost use Rattle.row_search.specs.Rows.{lastNotAbove, Rising};
 
-// Whether row i's figure in column c is not above z: both are raised.
+// Whether the figure in row i of column c, which is not negative, is not above z.
 fn not_above(b: &[u8], w: usize, c: usize, i: usize, z: i64) -> bool
-    requires { ⌜ (4 * (w * i + c) + 4 ≤ length (now b)) × (natAbs z < 2 ^ 62) ⌝ }
+    requires { ⌜ (4 * (w * i + c) + 4 ≤ length (now b)) × (leZ (pos 0) (column (now b) w c i) ≡ true) ⌝ }
     ensures { λ r. ⌜ r ≡ leZ (column (now (b .entry)) w c i) z ⌝ }
 {
-    (words::raised_word(b, w * i + c) as i64) <= z + figures::RAISED as i64
+    (words::unsigned_word(b, w * i + c) as i64) <= z
 }
 
-// Of the n rows of a rising column, the last whose figure is not above z, which is one from row low to below row high.
-pub fn last_not_above(
-    b: &[u8],
-    w: usize,
-    c: usize,
-    n: usize,
-    low: usize,
-    high: usize,
-    z: i64,
-) -> usize
-    requires { ⌜ (low < high) × (high ≤ n) × (4 * (w * n) ≤ length (now b)) × (c < w) × Rising (column (now b) w c) n × (leZ (column (now b) w c low) z ≡ true) × (high < n → ltZ z (column (now b) w c high) ≡ true) × (natAbs z < 2 ^ 62) ⌝ }
-    ensures { λ r. ⌜ (r ≡ lastNotAbove (column (now (b .entry)) w c) n z) × (r < n) ⌝ }
+// Where to look first: z's row if every row stood a rise above the one before it, or the last row.
+fn first_look(b: &[u8], c: usize, n: usize, rise: u64, z: i64) -> usize
+    requires { ⌜ (0 < n) × (0 < rise) × (4 * c + 4 ≤ length (now b)) × (leZ (pos 0) (wordAt (now b) c) ≡ true) × (leZ (wordAt (now b) c) z ≡ true) × (natAbs z < 2 ^ 62) ⌝ }
+    ensures { λ r. ⌜ r < n ⌝ }
 {
-    let mut from = low;
-    let mut to = high;
-    while from + 1 < to {
-        let mid = from + (to - from) / 2;
-        if not_above(b, w, c, mid, z) {
-            from = mid;
-        } else {
-            to = mid;
-        }
+    let height = (z - words::unsigned_word(b, c) as i64) as u64;
+    let row = height / rise;
+    if row < (n as u64) {
+        row as usize
+    } else {
+        n - 1
     }
-    from // the one row left
 }
 
-// How far z stands above the figure in column c of row 0.
-fn height(b: &[u8], c: usize, z: i64) -> u64
-    requires { ⌜ (4 * c + 4 ≤ length (now b)) × (leZ (wordAt (now b) c) z ≡ true) × (natAbs z < 2 ^ 62) ⌝ }
-    ensures { λ r. ⌜ z ≡ wordAt (now (b .entry)) c +ℤ pos r ⌝ }
+// From a row down, the first whose figure is not above z. Row 0's is not.
+fn down(b: &[u8], w: usize, c: usize, n: usize, from: usize, z: i64) -> usize
+    requires { ⌜ (from < n) × (4 * (w * n) ≤ length (now b)) × (c < w) × NotNegative (column (now b) w c) n × (leZ (column (now b) w c 0) z ≡ true) ⌝ }
+    ensures { λ r. ⌜ (r < n) × (leZ (column (now (b .entry)) w c r) z ≡ true) ⌝ }
 {
-    (z + figures::RAISED as i64 - words::raised_word(b, c) as i64) as u64
+    let mut row = from;
+    while !not_above(b, w, c, row, z) {
+        row -= 1;
+    }
+    row
 }
 
-// k, cut to the last row.
-fn cut(k: u64, last: usize) -> usize
-    ensures { λ r. ⌜ r ≡ min k last ⌝ }
-{
-    if k < (last as u64) { k as usize } else { last }
-}
-
-// The same row where each row is higher than the one before it by least to most: a number d above row 0 can stand no lower than row d / most, and no
-// higher than row d / least, and the search goes through these rows alone.
-pub fn row_of(b: &[u8], w: usize, c: usize, n: usize, least: u64, most: u64, z: i64) -> usize
-    requires { ⌜ (0 < n) × (4 * (w * n) ≤ length (now b)) × (c < w) × (0 < least) × (least ≤ most) × RisesBy (column (now b) w c) n least most × (leZ (column (now b) w c 0) z ≡ true) × (natAbs z < 2 ^ 62) ⌝ }
+// From a row whose figure is not above z up, the last such row.
+fn up(b: &[u8], w: usize, c: usize, n: usize, from: usize, z: i64) -> usize
+    requires { ⌜ (from < n) × (4 * (w * n) ≤ length (now b)) × (c < w) × NotNegative (column (now b) w c) n × Rising (column (now b) w c) n × (leZ (column (now b) w c from) z ≡ true) ⌝ }
     ensures { λ r. ⌜ (r ≡ lastNotAbove (column (now (b .entry)) w c) n z) × (r < n) ⌝ }
 {
-    let d = height(b, c, z);
-    let low = cut(d / most, n - 1);
-    let high = cut(d / least, n - 1) + 1;
-    last_not_above(b, w, c, n, low, high, z)
+    let mut row = from;
+    while row + 1 < n && not_above(b, w, c, row + 1, z) {
+        row += 1;
+    }
+    row
+}
+
+// Of the n rows of a rising column, in which no figure is negative, the last whose figure is not above z; row 0's is not. A rise near the rows' own makes the way to it
+// short, and decides no answer.
+pub fn row_of(b: &[u8], w: usize, c: usize, n: usize, rise: u64, z: i64) -> usize
+    requires { ⌜ (0 < n) × (4 * (w * n) ≤ length (now b)) × (c < w) × (0 < rise) × NotNegative (column (now b) w c) n × Rising (column (now b) w c) n × (leZ (column (now b) w c 0) z ≡ true) × (natAbs z < 2 ^ 62) ⌝ }
+    ensures { λ r. ⌜ (r ≡ lastNotAbove (column (now (b .entry)) w c) n z) × (r < n) ⌝ }
+{
+    let look = first_look(b, c, n, rise, z);
+    up(b, w, c, n, down(b, w, c, n, look, z), z)
 }

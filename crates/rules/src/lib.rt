@@ -1,4 +1,4 @@
-// The rules of a sheet's figures, as functions of the figures, which the check and a correction call alike.
+// The rules of a sheet's figures, as functions of the figures. Check and correction call the same ranges and bounds; the check tests the printed differences, a correction works them.
 ghost use mathlib.Core.Path.{_≡_};
 ghost use mathlib.Core.Bool.{true};
 ghost use Prim.Native.Nat.{_%_, _≤_};

@@ -10,7 +10,7 @@ use lib.Arith.{digits-div, digits-mod, mod-mul}
 use lib.Dec.{T, eqb}
 use borrow.Author.Tests.{le-leb, eq-eqb, ne-eqb}
 use lib.IntN.{ℤ, pos, negsuc, negℤ, natAbs, _+ℤ_, _*ℤ_, +ℤ-one, negℤ-+ℤ, -ℤ-+ℤ-cancel}
-use lib.Signed.{leZ}
+use lib.Signed.{leZ, nonNeg}
 use Rattle.figures.specs.Nearest.{withSign, nearestSize, nearest, onHalfSize, onHalf}
 use Rattle.steps.specs.Wide.{towardZero}
 use Rattle.figures.proofs.Ring.{swap-last, sum-times, times-assoc}
@@ -22,6 +22,10 @@ pub toward-up : (t : ℤ) (e : ℕ) → leZ (pos 0) t ≡ true → towardZero t 
 unfolding towardZero
 toward-up (pos n) e h = refl
 toward-up (negsuc n) e h = absurd (subst T (sym h) tt)
+
+pub toward-size : (t : ℤ) (e : ℕ) → T (nonNeg t) → towardZero t e ≡ t
+unfolding towardZero
+toward-size (pos n) e h = refl
 
 pub toward-exact : (t : ℤ) → towardZero t 0 ≡ t
 unfolding towardZero

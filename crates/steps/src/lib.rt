@@ -55,7 +55,8 @@ const LOW: u64 = 16_384;
 const HIGH: u64 = 61_035_156_250;
 
 // The reduction of y, in 0.01 ft: P(x′/10,000)² + d, for x the size of x′. P·x² passes 64 bits, so x² is split at LOW:
-// P·x² + d·10¹⁵ is t·LOW + rest. The exact value is a half if t/HIGH is one and the rest, which is dropped, is 0.
+// P·x² + d·10¹⁵ is t·LOW + rest, and the rest is dropped toward zero. A t not below zero, as nearly all are, just loses it, and is rounded as a size.
+// The exact value is a half if what is left, over HIGH, is one and the rest is 0.
 pub fn reduction(p: u64, x: u64, d: i64) -> Rounded
     requires { ⌜ (p ≤ mostP) × (x ≤ mostX) × (natAbs d ≤ mostD) ⌝ }
     ensures { λ r. ⌜ (r .value ≡ reduction p x d) × (r .half ≡ reductionHalf p x d) ⌝ }
@@ -65,10 +66,17 @@ pub fn reduction(p: u64, x: u64, d: i64) -> Rounded
     let whole = p * (square / LOW) + low / LOW;
     let t = whole as i64 + d * (HIGH as i64);
     let rest = low % LOW;
-    let r = figures::nearest(toward_zero(t, rest), HIGH);
+    if t < 0 {
+        let r = figures::nearest(toward_zero(t, rest), HIGH);
+        return Rounded {
+            value: r.value,
+            half: r.half & (rest == 0),
+        };
+    }
+    let size = figures::nearest_size(t as u64, HIGH);
     Rounded {
-        value: r.value,
-        half: r.half & (rest == 0),
+        value: size.value as i64,
+        half: size.half & (rest == 0),
     }
 }
 

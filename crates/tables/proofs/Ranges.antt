@@ -23,7 +23,8 @@ use Rattle.bodies.specs.Check.{checkOf}
 use Rattle.bodies.proofs.Known.{contents-none}
 use Rattle.bodies.proofs.Sound.{passes-sound, zone-rows, latitude-rows, longitude-rows, northing-rows, easting-rows, scale-rows}
 use Rattle.reading.specs.Tables.{NotNegative}
-use Rattle.row_search.specs.Rows.{RisesBy}
+use Rattle.row_search.specs.Rows.{RisesBy, Rising}
+use Rattle.row_search.proofs.Rising.{rises-rising}
 use Rattle.reading.proofs.Values.{value-most, value-size, value-slope}
 use Rattle.tables.specs.Figures.{figureOf, figureAt, figureHalf, latitudeAt, latitudeHalf, centralMeridian, falseEasting, firstLatitude, y0Of, y0At, hAt, aAt, bAt, cAt, dAt, kAt}
 use Rattle.tables.proofs.Parts.{step-above}
@@ -122,6 +123,9 @@ module _ (s : List ℕ) (z : checkOf s .number ≡ 0) where
         rw (this .is, next .is) (le-leb _ _ (up .0)),
         rw (this .is, next .is) (le-leb _ _ (up .1)),
       )
+
+  pub y0-rising : Rising (y0Of s) (rowsOf s latitude)
+  y0-rising = rises-rising (y0Of s) (rowsOf s latitude) leastRise mostRise y0-rises (lit< tt)
 
   -- the columns in which no figure is negative
   pub y0-rows : NotNegative (figureOf s latitude 1) (rowsOf s latitude)

@@ -90,7 +90,7 @@ fn signed(r: RoundedSize) -> Rounded
 }
 
 // The central meridian, in 0.001″.
-pub fn central_meridian(s: &[u8], p: Places) -> i64
+fn central_meridian(s: &[u8], p: Places) -> i64
     requires { ⌜ KnownToPass (now s) p ⌝ }
     ensures { λ r. ⌜ (r ≡ centralMeridian (now (s .entry))) × (natAbs r ≤ 642_000_000) ⌝ }
 {
@@ -98,7 +98,7 @@ pub fn central_meridian(s: &[u8], p: Places) -> i64
 }
 
 // The false easting C, in 0.01 ft.
-pub fn false_easting(s: &[u8], p: Places) -> i64
+fn false_easting(s: &[u8], p: Places) -> i64
     requires { ⌜ KnownToPass (now s) p ⌝ }
     ensures { λ r. ⌜ (r ≡ falseEasting (now (s .entry))) × (natAbs r ≤ 100_000_000) ⌝ }
 {
@@ -135,21 +135,22 @@ pub fn y0_of(s: &[u8], p: Places, i: usize) -> i64
     figure_of(s, p.latitude, entries::LATITUDE, 1, i)
 }
 
+// Of the first n latitude rows, the last with y0 not above z, which is not below the first. The search starts by a rise halfway between the bounds.
+fn row_among(s: &[u8], p: Places, n: usize, z: i64) -> usize
+    requires { ⌜ KnownToPass (now s) p × (0 < n) × (n ≤ rowsOf (now s) latitude) × (leZ (y0Of (now s) 0) z ≡ true) × (natAbs z < 2 ^ 62) ⌝ }
+    ensures { λ r. ⌜ (r ≡ lastNotAbove (y0Of (now (s .entry))) n z) × (r < n) ⌝ }
+{
+    let b = contents::body(s, p.latitude, entries::LATITUDE);
+    let rise = (rules::LEAST_RISE as u64 + rules::MOST_RISE as u64) / 2;
+    row_search::row_of(b, entries::LATITUDE_WIDTH, 1, n, rise, z)
+}
+
 // The last latitude row with y0 not above z, which is not below the first.
 pub fn row_of(s: &[u8], p: Places, z: i64) -> usize
     requires { ⌜ KnownToPass (now s) p × (leZ (y0Of (now s) 0) z ≡ true) × (natAbs z < 2 ^ 62) ⌝ }
     ensures { λ r. ⌜ (r ≡ lastNotAbove (y0Of (now (s .entry))) (rowsOf (now (s .entry)) latitude) z) × (r < rowsOf (now (s .entry)) latitude) ⌝ }
 {
-    let b = contents::body(s, p.latitude, entries::LATITUDE);
-    row_search::row_of(
-        b,
-        entries::LATITUDE_WIDTH,
-        1,
-        p.latitude.rows,
-        rules::LEAST_RISE as u64,
-        rules::MOST_RISE as u64,
-        z,
-    )
+    row_among(s, p, p.latitude.rows, z)
 }
 
 // The same row, or the one before it where that is the last, so that there is a next: the last row is not looked at.
@@ -157,16 +158,7 @@ pub fn row_with_next(s: &[u8], p: Places, z: i64) -> usize
     requires { ⌜ KnownToPass (now s) p × (leZ (y0Of (now s) 0) z ≡ true) × (natAbs z < 2 ^ 62) ⌝ }
     ensures { λ r. ⌜ r ≡ min (lastNotAbove (y0Of (now (s .entry))) (rowsOf (now (s .entry)) latitude) z) (rowsOf (now (s .entry)) latitude - 2) ⌝ }
 {
-    let b = contents::body(s, p.latitude, entries::LATITUDE);
-    row_search::row_of(
-        b,
-        entries::LATITUDE_WIDTH,
-        1,
-        p.latitude.rows - 1,
-        rules::LEAST_RISE as u64,
-        rules::MOST_RISE as u64,
-        z,
-    )
+    row_among(s, p, p.latitude.rows - 1, z)
 }
 
 // y0 at t from row 0, in 0.01 ft.
