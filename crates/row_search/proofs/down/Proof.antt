@@ -41,7 +41,7 @@ above-first c =
     not-first (column (a .b .now) (a .w) (a .c)) (a .z) (c .before .before .loop .row) (s .pre .4) (rw (toZ-ofZ (s .fits .z)) at (sym (c .before .not-above .ensures) ∙ not-true (c .before .not-above .result) (c .if1 .taken)))
 
 sub-row : tie.Need-sub-row Inv-loop μ-loop
-sub-row c = above-first c
+sub-row c = omega (arith, above-first c)
 
 loop-less : tie.Need-loop-less Inv-loop μ-loop
 loop-less c = omega (arith, above-first c)
