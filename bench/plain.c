@@ -211,17 +211,13 @@ static int64_t reduction(int64_t p, int64_t size, int64_t d, bool *half) {
     return q;
 }
 
-// The last row with y0 not above the reduced northing, the last row of all left out. From row to row y0 rises by 600,000 to 615,000.
+// The last row with y0 not above the reduced northing, the last row of all left out. From row to row y0 rises by 600,000 to 615,000: the first look goes halfway between.
 static size_t row_of(const uint8_t *b, size_t rows, int32_t reduced) {
-    uint32_t above = reduced - word(b, 1), first = above / 615000, last = above / 600000;
-    if (first > rows - 2) first = rows - 2;
-    if (last > rows - 2) last = rows - 2;
-    for (uint32_t left = last - first; left;) {
-        uint32_t half = (left + 1) / 2;
-        if (word(b, 8 * (first + half) + 1) <= reduced) first += half;
-        left -= half;
-    }
-    return first;
+    uint32_t row = (uint32_t)(reduced - word(b, 1)) / 607500;
+    if (row > rows - 2) row = rows - 2;
+    while (word(b, 8 * row + 1) > reduced) row--;
+    while (row < rows - 2 && word(b, 8 * row + 9) <= reduced) row++;
+    return row;
 }
 
 geographic plain_inverse(const uint8_t *s, const places *p, int32_t x, int32_t y) {
