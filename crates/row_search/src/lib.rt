@@ -17,7 +17,7 @@ fn not_above(b: &[u8], w: usize, c: usize, i: usize, z: i64) -> bool
     (words::unsigned_word(b, w * i + c) as i64) <= z
 }
 
-// Where to look first: z's row if every row stood a rise above the one before it, or the last row.
+// Where to look first: the row that z would have if every row stood a rise above the one before it, and at most the last.
 fn first_look(b: &[u8], c: usize, n: usize, rise: u64, z: i64) -> usize
     requires { ⌜ (0 < n) × (0 < rise) × (4 * c + 4 ≤ length (now b)) × (leZ (pos 0) (wordAt (now b) c) ≡ true) × (leZ (wordAt (now b) c) z ≡ true) × (natAbs z < 2 ^ 62) ⌝ }
     ensures { λ r. ⌜ r < n ⌝ }
@@ -31,7 +31,7 @@ fn first_look(b: &[u8], c: usize, n: usize, rise: u64, z: i64) -> usize
     }
 }
 
-// From a row down, the first whose figure is not above z. Row 0's is not.
+// A row whose figure is not above z: the first from a given one down. Row 0's is not.
 fn down(b: &[u8], w: usize, c: usize, n: usize, from: usize, z: i64) -> usize
     requires { ⌜ (from < n) × (4 * (w * n) ≤ length (now b)) × (c < w) × NotNegative (column (now b) w c) n × (leZ (column (now b) w c 0) z ≡ true) ⌝ }
     ensures { λ r. ⌜ (r < n) × (leZ (column (now (b .entry)) w c r) z ≡ true) ⌝ }
@@ -43,7 +43,7 @@ fn down(b: &[u8], w: usize, c: usize, n: usize, from: usize, z: i64) -> usize
     row
 }
 
-// From a row whose figure is not above z up, the last such row.
+// The last row whose figure is not above z, from a given one of such rows up.
 fn up(b: &[u8], w: usize, c: usize, n: usize, from: usize, z: i64) -> usize
     requires { ⌜ (from < n) × (4 * (w * n) ≤ length (now b)) × (c < w) × NotNegative (column (now b) w c) n × Rising (column (now b) w c) n × (leZ (column (now b) w c from) z ≡ true) ⌝ }
     ensures { λ r. ⌜ (r ≡ lastNotAbove (column (now (b .entry)) w c) n z) × (r < n) ⌝ }
@@ -55,8 +55,8 @@ fn up(b: &[u8], w: usize, c: usize, n: usize, from: usize, z: i64) -> usize
     row
 }
 
-// Of the n rows of a rising column, in which no figure is negative, the last whose figure is not above z; row 0's is not. A rise near the rows' own makes the way to it
-// short, and decides no answer.
+// Of the n rows of a rising column, in which no figure is negative, the last whose figure is not above z. Row 0's is not.
+// The rise decides no answer: the nearer it is to the rows' own, the shorter is the way from the first look.
 pub fn row_of(b: &[u8], w: usize, c: usize, n: usize, rise: u64, z: i64) -> usize
     requires { ⌜ (0 < n) × (4 * (w * n) ≤ length (now b)) × (c < w) × (0 < rise) × NotNegative (column (now b) w c) n × Rising (column (now b) w c) n × (leZ (column (now b) w c 0) z ≡ true) × (natAbs z < 2 ^ 62) ⌝ }
     ensures { λ r. ⌜ (r ≡ lastNotAbove (column (now (b .entry)) w c) n z) × (r < n) ⌝ }
