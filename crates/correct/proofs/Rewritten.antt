@@ -13,10 +13,12 @@ use Rattle.words.specs.Ladder.{whereBelow}
 use Rattle.words.proofs.Refusals.{where-below, where-beyond}
 use Rattle.entries.specs.Layout.{latitude, widthOf, rowBytes}
 use Rattle.rules.specs.declared.Figures.{Figures}
-use Rattle.rules.specs.Latitude.{figuresInRange, withinBounds}
+use Rattle.rules.specs.declared.Differences.{Differences}
+use Rattle.rules.specs.Latitude.{figuresInRange, withinBounds, differencesOf}
 use Rattle.rows.specs.Rows.{figuresAt, differencesAt}
 use Rattle.judge.specs.Judge.{boundBefore, boundAfter}
-use Rattle.correct.specs.Correction.{putFigures, workedAt, reworked, rewritten}
+use Rattle.correct.specs.Correction.{putFigures, putDifferences, workedAt, reworked, rewritten}
+use Rattle.correct.proofs.Steps.{worked-with, rework-is}
 use Rattle.correct.proofs.RowWords.{FiguresFit, figures-fit, DifferencesFit, length-putFigures, minute-by-figures, differences-by-figures, figures-elsewhere, figures-put, length-putDifferences, minute-by-differences, figures-by-differences, differences-elsewhere, differences-put}
 use Rattle.judge.proofs.Bounds.{bound-before, bound-after}
 
@@ -115,31 +117,43 @@ module _ (b : List ℕ) (n r : ℕ) (f : Figures) where
         by-place (λ t. differencesAt t j ≡ workedAt (rewritten b n r f) n j) (λ z. absurd (omega arith))
         (λ z. rw at (own-reworked own n j (omega (arith, length-own)) (rw same d) ∙ same))
 
--- ---- in the shape of the code: t has the new figures, u row r's differences too, and v those of the row before
-module _ (b : List ℕ) (n r : ℕ) (f : Figures) where
-  module _ (long : rowBytes latitude * n ≤ length b) (there : r < n) (range : figuresInRange f ≡ true) (t : List ℕ) (p : t ≡ putFigures b r f) where
-    here : figuresAt t r ≡ f
-    here = rw p (figures-put b r f (omega arith) (figures-fit f range))
+-- ---- in the shape of the code: the differences are worked from the figures in hand. t has the new figures, u row r's differences too, and v those of the row before.
+module _ (b : List ℕ) (n r : ℕ) (f : Figures) (long : rowBytes latitude * n ≤ length b) (there : r < n) (range : figuresInRange f ≡ true) where
+  here : figuresAt (putFigures b r f) r ≡ f
+  here = figures-put b r f (omega arith) (figures-fit f range)
 
-    pub own-asks : boundAfter b n r f ≡ true → (rowBytes latitude * n ≤ length t) × (r < n) × (r + 1 < n → withinBounds (figuresAt t r) (figuresAt t (r + 1)) ≡ true)
-    own-asks e =
-        let next : figuresAt t (r + 1) ≡ figuresAt b (r + 1) = rw p (figures-elsewhere b r f (r + 1) (omega arith)) in
-        (rw (p, length-putFigures b r f) long, there, λ h. rw (here, next) (bound-after b r f n e h))
+  -- g is the next row's figures
+  module _ (g : Figures) (e : g ≡ figuresAt b (r + 1)) (l : r + 1 < n) where
+    pub after-bounds : boundAfter b n r f ≡ true → withinBounds f g ≡ true
+    after-bounds h = rw e (bound-after b r f n h l)
 
-    pub before-asks : boundBefore b r f ≡ true → 0 < r → (u : List ℕ) → u ≡ reworked t n r
-        → (rowBytes latitude * n ≤ length u) × (r - 1 < n) × (r - 1 + 1 < n → withinBounds (figuresAt u (r - 1)) (figuresAt u (r - 1 + 1)) ≡ true)
-    before-asks e h u q =
-        let at : r - 1 + 1 ≡ r = omega arith in
-        let this : figuresAt u r ≡ f = rw q (figures-reworked t n r r ∙ here) in
-        let old : figuresAt t (r - 1) ≡ figuresAt b (r - 1) = rw p (figures-elsewhere b r f (r - 1) (omega arith)) in
-        let prior : figuresAt u (r - 1) ≡ figuresAt b (r - 1) = rw q (figures-reworked t n r (r - 1) ∙ old) in
-        (rw (q, length-reworked t n r, p, length-putFigures b r f) long, omega arith, λ l. rw (at, this, prior) (bound-before b r f n e h))
+    pub after-worked : (d : Differences) → d ≡ differencesOf f g → d ≡ workedAt (putFigures b r f) n r
+    after-worked d w = worked-with (putFigures b r f) n r d f g l (sym here) (e ∙ sym (figures-elsewhere b r f (r + 1) (omega arith))) w
 
-  module _ (t u : List ℕ) (p : t ≡ putFigures b r f) (q : u ≡ reworked t n r) where
-    pub later-row : 0 < r → (v : List ℕ) → v ≡ reworked u n (r - 1) → v ≡ rewritten b n r f
-    unfolding rewritten
-    later-row h v e = e ∙ rw (q, p) (sym (where-below 0 r (reworked (reworked (putFigures b r f) n r) n (r - 1)) (reworked (putFigures b r f) n r) h))
+  module _ (t u : List ℕ) (d : Differences) (w : d ≡ workedAt (putFigures b r f) n r) (p : t ≡ putFigures b r f) (q : u ≡ putDifferences t r d) where
+    own-is : u ≡ reworked (putFigures b r f) n r
+    own-is = rework-is (putFigures b r f) n r d u w (rw p at q)
 
     pub first-row : r ≤ 0 → u ≡ rewritten b n r f
     unfolding rewritten
-    first-row h = q ∙ rw p (sym (where-beyond 0 r (reworked (reworked (putFigures b r f) n r) n (r - 1)) (reworked (putFigures b r f) n r) h))
+    first-row h = own-is ∙ sym (where-beyond 0 r (reworked (reworked (putFigures b r f) n r) n (r - 1)) (reworked (putFigures b r f) n r) h)
+
+    -- g is the figures of the row before
+    module _ (h : 0 < r) (g : Figures) (e : g ≡ figuresAt u (r - 1)) where
+      at : r - 1 + 1 ≡ r
+      at = omega arith
+
+      prior : g ≡ figuresAt b (r - 1)
+      prior = e ∙ rw own-is (figures-reworked (putFigures b r f) n r (r - 1) ∙ figures-elsewhere b r f (r - 1) (omega arith))
+
+      this : f ≡ figuresAt u (r - 1 + 1)
+      this = rw (at, own-is) (sym (figures-reworked (putFigures b r f) n r r ∙ here))
+
+      pub before-bounds : boundBefore b r f ≡ true → withinBounds g f ≡ true
+      before-bounds k = rw prior (bound-before b r f n k h)
+
+      pub later-row : (k : Differences) (v : List ℕ) → k ≡ differencesOf g f → v ≡ putDifferences u (r - 1) k → v ≡ rewritten b n r f
+      unfolding rewritten
+      later-row k v m z =
+          rework-is u n (r - 1) k v (worked-with u n (r - 1) k g f (omega arith) e this m) z
+          ∙ rw own-is (sym (where-below 0 r (reworked (reworked (putFigures b r f) n r) n (r - 1)) (reworked (putFigures b r f) n r) h))

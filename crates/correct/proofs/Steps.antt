@@ -1,6 +1,5 @@
 -- The correction's steps in the shape of the code: what a callee answered, against the definition. Assumes nothing.
 use mathlib.Core.Path.{_≡_, sym, _∙_}
-use mathlib.Core.Bool.{true}
 use mathlib.Core.List.{List}
 use Prim.Native.Nat.{ℕ, _+_, _*_, _<_, _≤_}
 use lib.IntN.{ℤ}
@@ -9,7 +8,7 @@ use Rattle.words.proofs.Refusals.{where-below, where-beyond}
 use Rattle.entries.specs.Layout.{latitude, widthOf}
 use Rattle.rules.specs.declared.Figures.{Figures}
 use Rattle.rules.specs.declared.Differences.{Differences}
-use Rattle.rules.specs.Latitude.{withinBounds, differencesOf, noDifferences}
+use Rattle.rules.specs.Latitude.{differencesOf, noDifferences}
 use Rattle.rows.specs.Rows.{figuresAt}
 use Rattle.correct.specs.Correction.{putFigures, putDifferences, workedAt, reworked}
 
@@ -26,10 +25,6 @@ module _ (b : List ℕ) (n i : ℕ) (d : Differences) where
   pub rework-is : (t : List ℕ) → d ≡ workedAt b n i → t ≡ putDifferences b i d → t ≡ reworked b n i
   unfolding reworked
   rework-is t e q = q ∙ rw e
-
-pub read-bounds : (b : List ℕ) (n i : ℕ) (g h : Figures) → i + 1 < n → g ≡ figuresAt b i → h ≡ figuresAt b (i + 1)
-    → (i + 1 < n → withinBounds (figuresAt b i) (figuresAt b (i + 1)) ≡ true) → withinBounds g h ≡ true
-read-bounds b n i g h l e q w = rw (e, q) (w l)
 
 -- ---- word after word
 module _ (b : List ℕ) (i : ℕ) (x y z : ℤ) (t₁ t₂ t₃ : List ℕ) where

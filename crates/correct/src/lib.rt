@@ -6,10 +6,9 @@ ghost use mathlib.Core.Bool.{true};
 ghost use Prim.Native.Nat.{_+_, _*_, _<_, _≤_};
 ghost use lib.ListN.{length};
 ghost use Rattle.entries.specs.Layout.{latitude, rowBytes};
-ghost use Rattle.rules.specs.Latitude.{figuresInRange, withinBounds};
-ghost use Rattle.rows.specs.Rows.{figuresAt};
+ghost use Rattle.rules.specs.Latitude.{figuresInRange};
 ghost use Rattle.judge.specs.Judge.{boundBefore, boundAfter, judgedBy};
-ghost use Rattle.correct.specs.Correction.{correctionOf, putFigures, putDifferences, workedAt, reworked, rewritten, correctedBody, figures, correctedOf};
+ghost use Rattle.correct.specs.Correction.{correctionOf, putFigures, putDifferences, workedAt, rewritten, correctedBody, figures, correctedOf};
 
 // The figures become row i's.
 fn put_figures(b: &mut [u8], i: usize, f: Figures)
@@ -32,35 +31,28 @@ fn put_differences(b: &mut [u8], i: usize, d: Differences)
     words::put_word(b, entries::LATITUDE_WIDTH * i + 6, d.v);
 }
 
-// The differences of row i of n, as its figures and the next row's give them.
-fn worked_at(b: &[u8], n: usize, i: usize) -> Differences
-    requires { ⌜ (rowBytes latitude * n ≤ length (now b)) × (i < n) × (i + 1 < n → withinBounds (figuresAt (now b) i) (figuresAt (now b) (i + 1)) ≡ true) ⌝ }
-    ensures { λ d. ⌜ d ≡ workedAt (now (b .entry)) n i ⌝ }
+// The differences that row r of n has with figures f: those to the next row, and none in the last.
+fn differences_after(b: &[u8], n: usize, r: usize, f: Figures) -> Differences
+    requires { ⌜ (rowBytes latitude * n ≤ length (now b)) × (r < n) × (figuresInRange f ≡ true) × (boundAfter (now b) n r f ≡ true) ⌝ }
+    ensures { λ d. ⌜ d ≡ workedAt (putFigures (now (b .entry)) r f) n r ⌝ }
 {
-    if i + 1 < n {
-        return rules::differences_of(rows::figures_at(b, i), rows::figures_at(b, i + 1));
+    if r + 1 < n {
+        return rules::differences_of(f, rows::figures_at(b, r + 1));
     }
     rules::no_differences()
 }
 
-// Row i's differences are worked again and written.
-fn rework(b: &mut [u8], n: usize, i: usize)
-    requires { ⌜ (rowBytes latitude * n ≤ length (now b)) × (i < n) × (i + 1 < n → withinBounds (figuresAt (now b) i) (figuresAt (now b) (i + 1)) ≡ true) ⌝ }
-    ensures { λ _. ⌜ now (b .exit) ≡ reworked (now (b .entry)) n i ⌝ }
-{
-    let d = worked_at(b, n, i);
-    put_differences(b, i, d);
-}
-
-// Row r of n gets the new figures, and it and the row before it their differences.
+// Row r of n gets the new figures, and it and the row before it their differences. These are worked from the figures in hand, not from what was just written.
 fn rewrite(b: &mut [u8], n: usize, r: usize, f: Figures)
     requires { ⌜ (rowBytes latitude * n ≤ length (now b)) × (r < n) × (figuresInRange f ≡ true) × (boundBefore (now b) r f ≡ true) × (boundAfter (now b) n r f ≡ true) ⌝ }
     ensures { λ _. ⌜ now (b .exit) ≡ rewritten (now (b .entry)) n r f ⌝ }
 {
+    let own = differences_after(b, n, r, f);
     put_figures(b, r, f);
-    rework(b, n, r);
+    put_differences(b, r, own);
     if 0 < r {
-        rework(b, n, r - 1);
+        let before = rules::differences_of(rows::figures_at(b, r - 1), f);
+        put_differences(b, r - 1, before);
     }
 }
 

@@ -1,32 +1,38 @@
 -- `correct::rewrite` meets its contract. Assumes nothing.
-use Rattle.correct.proofs.Rewritten.{own-asks, before-asks, later-row, first-row}
+use Rattle.correct.proofs.Rewritten.{before-bounds, later-row, first-row}
 use borrow.Author.Needs.{needs}
 use Rattle.correct.proofs.rewrite.Statement.{statement}
 use Rattle.correct.proofs.rewrite.Tie as tie
 
 returns : tie.Need-returns
-returns c =
-    later-row _ _ _ _ _ _ (c .before .before .before .before .before .before .before .before .before .before .before .put-figures .ensures) (c .before .before .before .before .before .before .before .rework .ensures) (c .before .before .before .before .if1 .taken) _ (c .before .before .rework2 .ensures)
+returns c = search later-row
 
 returns-2 : tie.Need-returns-2
-returns-2 c =
-    first-row _ _ _ _ _ _ (c .before .before .before .before .before .before .before .put-figures .ensures) (c .before .before .before .rework .ensures) (c .if1 .left)
+returns-2 c = search first-row
+
+differences-after-requires : tie.Need-differences-after-requires
+differences-after-requires c κs = search needs
 
 put-figures-requires : tie.Need-put-figures-requires
 put-figures-requires c κs = search needs
 
-rework-requires : tie.Need-rework-requires
-rework-requires c κs =
-    let start = c .before .before .before .before .before .before in
-    own-asks _ _ _ _ (start .pre .0) (start .pre .1) (start .pre .2) _ (c .before .before .before .put-figures .ensures) (start .pre .4)
+put-differences-requires : tie.Need-put-differences-requires
+put-differences-requires c κs = search needs
 
-sub-rework : tie.Need-sub-rework
-sub-rework c = search needs
+sub-figures-at : tie.Need-sub-figures-at
+sub-figures-at c = search needs
 
-rework-requires-2 : tie.Need-rework-requires-2
-rework-requires-2 c κs =
-    let start = c .before .before .before .before .before .before .before .before .before .before .before in
-    before-asks _ _ _ _ (start .pre .0) (start .pre .1) (start .pre .2) _ (c .before .before .before .before .before .before .before .before .put-figures .ensures) (start .pre .3) (c .before .if1 .taken) _ (c .before .before .before .before .rework .ensures)
+figures-at-requires : tie.Need-figures-at-requires
+figures-at-requires c κs = search needs
+
+differences-of-requires : tie.Need-differences-of-requires
+differences-of-requires c κs = search before-bounds
+
+sub-put-differences : tie.Need-sub-put-differences
+sub-put-differences c = search needs
+
+put-differences-requires-2 : tie.Need-put-differences-requires-2
+put-differences-requires-2 c κs = search needs
 
 same-length : tie.Need-same-length
 same-length c = search needs
@@ -38,10 +44,14 @@ pub rewrite-spec : {M : Type 1} → statement M
 rewrite-spec =
     tie.close
     (tie.spec
+    differences-after-requires
     put-figures-requires
-    rework-requires
-    sub-rework
-    rework-requires-2
+    put-differences-requires
+    sub-figures-at
+    figures-at-requires
+    differences-of-requires
+    sub-put-differences
+    put-differences-requires-2
     same-length
     returns
     same-length-2
