@@ -40,7 +40,7 @@ bodiesOf s (suc n) k = orElse numberOf (inKind k (faultOf s k)) (bodiesOf s n (s
 unfoldable pub checkOf : List ℕ → Verdict
 checkOf s = orElse numberOf (contentsOf s) (bodiesOf s lastKind zone)
 
--- The sheet passes the check, and p are its places: what a conversion on a sheet known to pass asks for. Both are worked once, before the first point.
+-- The sheet passes the check, and p are its places: what a conversion on a sheet known to pass asks for. The check and the places are worked once, before the first point.
 pub record KnownToPass (s : List ℕ) (p : Places) : Type 0 where
   pub passes : checkOf s .number ≡ 0
   pub places : p ≡ placesOf s

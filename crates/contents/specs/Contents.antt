@@ -62,7 +62,7 @@ contentsOf s =
     (need (namesForm (unsignedAt s 0)) (verdict 2 0 0)
     (contentsBy (formOf s) s))
 
--- The contents have no fault, the kind is one that every sheet has, and p is the place of its body: what cutting the body out of the sheet asks for.
+-- The contents have no fault, the kind is one of today's six, and p is the place of its body: what cutting the body out of the sheet asks for.
 pub record Placed (s : List ℕ) (kind : ℕ) (p : Place) : Type 0 where
   pub contents : contentsOf s .number ≡ 0
   pub place : p ≡ placeOf s kind

@@ -11,7 +11,7 @@ use Rattle.inverse.specs.Inverse.{noGeographic, inverseOf}
 use Rattle.grid.specs.declared.Grid.{Grid}
 use Rattle.grid.specs.Grid.{noGrid, gridOf}
 
--- "Each conversion gives the check's number first, then its own": `refuse` carries a number, and `rest` is what comes after a check that passes.
+-- "Each conversion gives the check's number first, then its own": `refuse` makes the refusal with a number, `number` reads an answer's number, and `rest` is the answer after a check that passes.
 abbrev pub afterCheck : {A : Type 0} → (A → ℕ) → (ℕ → A) → List ℕ → A → A
 afterCheck number refuse s rest = orElse number (refuse (checkOf s .number)) rest
 

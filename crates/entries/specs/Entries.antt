@@ -81,7 +81,7 @@ pub record Within (s : List ℕ) (kind offset : ℕ) : Type 0 where
 unfoldable pub bodyOf : List ℕ → ℕ → List ℕ
 bodyOf s kind = partOf s (startOf s kind) (rowsOf s kind * widthOf kind)
 
--- Where the kind's body lies, and where each does.
+-- Where the kind's body lies; below, where all six lie.
 abbrev pub placeOf : List ℕ → ℕ → Place
 placeOf s kind = record { start = startOf s kind; rows = rowsOf s kind; step = stepOf s kind }
 

@@ -16,8 +16,8 @@ form kinds words = record { kinds = kinds; words = words }
 abbrev pub namesForm : ℕ → Bool
 namesForm word = eqb word 6
 
--- The form that word 0 names: "Six entries follow, each three words: kind, start (a word number), rows". There is one form, so the word is not looked at. A word that names none is
--- judged by the least length of this form, and is refused by 2 after that.
+-- The form that word 0 names: "Six entries follow, each three words: kind, start (a word number), rows". There is one form, so the word is not looked at. A sheet
+-- whose word 0 names no form is first held to this form's least length (1), and then refused by 2.
 unfoldable pub formNamed : ℕ → Form
 formNamed word = form 6 3
 
@@ -36,7 +36,7 @@ mostKinds = 6
 abbrev pub mostWords : ℕ
 mostWords = 4
 
--- What every form keeps, one with fewer kinds too.
+-- Bounds that every form keeps, also one with fewer kinds.
 pub record Small (f : Form) : Type 0 where
   pub some : 1 ≤ f .kinds
   pub few : f .kinds ≤ mostKinds
@@ -55,7 +55,7 @@ leastBytes f = 4 * firstBody f
 abbrev pub mostBytes : ℕ
 mostBytes = 65_532
 
--- No first body comes after this word.
+-- No form's first body starts past this word.
 abbrev pub mostFirst : ℕ
 mostFirst = mostWords * mostKinds + firstEntry
 
@@ -66,7 +66,7 @@ pub record HasContents (f : Form) (s : List ℕ) : Type 0 where
 
 -- ---- the kinds
 -- "Kinds 1 to 6 appear once each in any order": each entry names one of the form's kinds, and none a second time, so the entries name them all.
--- The form that word 0 names has the kinds 1 to this one.
+-- The last kind: the form's kinds are 1 to this one.
 abbrev pub lastKind : ℕ
 lastKind = 6
 

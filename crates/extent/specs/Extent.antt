@@ -22,7 +22,7 @@ latitudeKnown s north = withinRows (rowsOf s latitude) oneMinute (fromFirst s no
 unfoldable pub lOf : List ℕ → ℤ → ℤ
 lOf s west = centralMeridian s -ℤ west
 
--- For 11, "the size of L (given, approximate or final) above the last kind 3 row". A size is not negative; none of the three ever is on a sheet that passes.
+-- For 11, "the size of L (given, approximate or final) above the last kind 3 row". The test also asks that the size is not negative: on a sheet that passes that holds of all three.
 unfoldable pub sizeKnown : List ℕ → ℤ → Bool
 sizeKnown s size = withinRows (rowsOf s longitude) (stepOf s longitude) size
 

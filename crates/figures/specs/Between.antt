@@ -13,10 +13,10 @@ exactBetween u w t step = u *ℤ pos step +ℤ (w -ℤ u) *ℤ pos t
 unfoldable pub between : ℤ → ℤ → ℕ → ℕ → ℤ
 between u w t step = nearest (exactBetween u w t step) step
 
--- "Reading between rows .. shall also tell whether" its "exact value was a half."
+-- Whether the exact value of that reading "was a half".
 unfoldable pub betweenHalf : ℤ → ℤ → ℕ → ℕ → Bool
 betweenHalf u w t step = onHalf (exactBetween u w t step) step
 
--- The figure that n stands for, where n is the figure plus 2³¹: so no word's n is negative.
+-- n is a figure raised by 2³¹, so that it is never negative; this gives the figure back.
 unfoldable pub lowered : ℕ → ℤ
 lowered n = pos n -ℤ pos 2_147_483_648

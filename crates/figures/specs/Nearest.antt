@@ -18,7 +18,7 @@ unfoldable pub nearest : ℤ → ℕ → ℤ
 nearest n d = withSign n (pos (nearestSize (natAbs n) d))
 
 -- "whether their exact value was a half", of n/d where n is a size and d is above 0: twice the rest of the division is d. `promises` has the theorem that this
--- is so exactly where 2n/d is a whole odd number. The words on halves that are quoted here and in the other crates are those of the request for the mark.
+-- is so exactly where 2n/d is a whole odd number. The words on halves that are quoted here and in other crates come from the later request for the mark, not from the paper of rules.
 unfoldable pub onHalfSize : ℕ → ℕ → Bool
 onHalfSize n d = eqb (2 * (n % d)) d
 

@@ -1,4 +1,4 @@
--- The bounds that contracts ask of the figures that reach a step, in the sheet's units: no figure of a passing sheet passes them.
+-- The bounds that contracts ask of the figures that reach a step, in the sheet's units: no figure of a sheet that passes the check goes beyond them.
 -- From H to q they are the ranges of the sheet. Most of those after are wider than today's sheet needs, so that they hold for the later forms of a sheet too,
 -- which may bring their own steps, leave out latitude rows, or hold mapping radii.
 use Prim.Native.Nat.{ℕ}
@@ -43,15 +43,15 @@ mostS = 6_000_000
 abbrev pub mostQ : ℕ
 mostQ = 3_600_000
 
--- the size of x′ in the inverse, in 0.01 ft: the last of ten kind 5 rows stands at 450,000 ft, and at 900,000 ft where the sheet brings its steps
+-- the size of x′ in the inverse, in 0.01 ft: the last of ten kind 5 rows stands at 450,000 ft, and at 900,000 ft in a later form, whose sheet brings its own steps
 abbrev pub mostX : ℕ
 mostX = 90_000_000
 
--- the size of any 32-bit number: a word, and x′ within 200 kind 6 rows, at 995,000 ft, and at 19,900,000 ft where the sheet brings its steps
+-- the size of any 32-bit number: a word, and x′ within 200 kind 6 rows, at 995,000 ft, and at 19,900,000 ft in a later form, whose sheet brings its own steps
 abbrev pub mostWord : ℕ
 mostWord = 2_147_483_648
 
--- a table's row: any word, and a mapping radius in 0.01 ft, below 100,000,000 ft
+-- a figure in a table's row: any word, and a mapping radius in 0.01 ft, below 100,000,000 ft
 abbrev pub mostRow : ℕ
 mostRow = 10_000_000_000
 
@@ -59,7 +59,7 @@ mostRow = 10_000_000_000
 abbrev pub mostCount : ℕ
 mostCount = 10_000
 
--- a table's step, in the point's unit: 10,000,000 is kind 4's, and latitude rows may come to stand 1,666 minutes apart
+-- a table's step, in the point's unit: 10,000,000 is kind 4's, and in a later form latitude rows may stand up to 1,666 minutes apart
 abbrev pub mostStep : ℕ
 mostStep = 100_000_000
 
@@ -75,7 +75,7 @@ mostScale = 1_000
 abbrev pub mostChange : ℕ
 mostChange = 1_000_000
 
--- what `nearest` divides, and by what: so that twice the one and the other together fit 64 bits
+-- what `nearest` divides, and by what: so that twice the first and the second together fit an unsigned number of 64 bits
 abbrev pub mostNumerator : ℕ
 mostNumerator = 8_000_000_000_000_000_000
 

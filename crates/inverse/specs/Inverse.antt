@@ -1,4 +1,4 @@
--- "Plane to geographic." x and y in 0.01 ft, latitude and longitude in 0.001″. s is the sheet and xp is x′. x is the size of x′ in every step, and the point's own x in `inverseOf`.
+-- "Plane to geographic." x and y in 0.01 ft, latitude and longitude in 0.001″. s is the sheet and xp is x′. The name x is the point's x in `inverseOf`, and the size of x′ everywhere else.
 use mathlib.Core.Bool.{Bool, false, _||_}
 use mathlib.Core.List.{List}
 use Prim.Native.Nat.{ℕ, _+_, _*_}

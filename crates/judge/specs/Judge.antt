@@ -17,8 +17,8 @@ fromFirstMinute b minute = minute -ℤ rowAt b 0 .minute
 abbrev pub namedRow : List ℕ → ℤ → ℕ
 namedRow b minute = natAbs (fromFirstMinute b minute)
 
--- False exactly where 16 is due: "no row with the correction's minute", in its place. On a sheet not checked before, a row in another place that bears the minute does not count.
--- The minute has no range of its own.
+-- Whether the place that the first row's minute gives is one of the body's, and its row has the minute: no exactly where 16 is due, "no row with the correction's minute".
+-- On a sheet not checked before, a row in another place that has the minute does not count. The minute has no range of its own.
 unfoldable pub hasRow : List ℕ → ℕ → ℤ → Bool
 hasRow b n minute = inRange (pos 0) (fromFirstMinute b minute) (pos (n - 1)) && sameAs (rowAt b (namedRow b minute) .minute) minute
 

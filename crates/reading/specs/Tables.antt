@@ -34,6 +34,6 @@ valueHalf f step offset = pastRowHalf f (offset / step) (offset % step) step
 unfoldable pub withinRows : ℕ → ℕ → ℤ → Bool
 withinRows rows step z = leZ (pos 0) z && leZ z (pos ((rows - 1) * step))
 
--- None of the first n rows is negative.
+-- No figure of the first n rows is negative.
 unfoldable pub NotNegative : (ℕ → ℤ) → ℕ → Type 0
 NotNegative f n = (i : ℕ) → i < n → leZ (pos 0) (f i) ≡ true

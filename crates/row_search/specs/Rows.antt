@@ -11,11 +11,11 @@ unfoldable pub lastNotAbove : (ℕ → ℤ) → ℕ → ℤ → ℕ
 lastNotAbove f zero z = 0
 lastNotAbove f (suc n) z = cond (leZ (f n) z) n (lastNotAbove f n z)
 
--- Each of the first n rows but the last is followed by one that is higher by least to most, as a passing sheet's y0 by 600,000 to 615,000.
+-- From each of the first n rows but the last the figure rises to the next row's by least to most; a passing sheet's y0 by 600,000 to 615,000.
 unfoldable pub RisesBy : (ℕ → ℤ) → ℕ → ℕ → ℕ → Type 0
 RisesBy f n least most =
     (i : ℕ) → i + 1 < n → (leZ (f i +ℤ pos least) (f (i + 1)) ≡ true) × (leZ (f (i + 1)) (f i +ℤ pos most) ≡ true)
 
--- Each of the first n rows but the last is followed by a higher one.
+-- From each of the first n rows but the last the figure rises to the next row's.
 unfoldable pub Rising : (ℕ → ℤ) → ℕ → Type 0
 Rising f n = (i : ℕ) → i + 1 < n → ltZ (f i) (f (i + 1)) ≡ true

@@ -1,5 +1,5 @@
 -- The Survey's printed steps, one definition a step, over whole numbers in the sheet's and the point's units.
--- A figure that cannot be negative is a ℕ, and so is a size that is given. a, b, c, d and a signed x′ are ℤ, and so is what is worked from them, the sizes of x′ and of L too.
+-- A figure that cannot be negative, and a size that is given, is a ℕ. a, b, c, d and a signed x′ are ℤ, and so is what is worked from them: also the sizes of x′ and of L, since a·b may be negative.
 -- A step is a fraction. `exact..` is what stands above its line. The step rounds once, by nearest, and its `..Half` says whether its "exact value was a half".
 use mathlib.Core.Bool.{Bool}
 use Prim.Native.Nat.{ℕ, _*_}

@@ -1,5 +1,6 @@
 -- Rounding toward zero, by which the reduction's product, too wide for 64 bits, loses its low part before it is rounded to the nearest.
--- The value does not depend on what is lost, since the divisor that is left is even. Whether the exact value was a half does: `reductionHalf` is over the whole product.
+-- What is lost is less than a K that divides 10¹⁵, and 10¹⁵/K is even: so a half is a whole number of what is kept, and what is lost does not decide the value.
+-- It does decide whether the exact value was a half: `reductionHalf` is over the whole product.
 use Prim.Native.Nat.{ℕ, zero, suc}
 use lib.IntN.{ℤ, pos, negsuc, negℤ}
 

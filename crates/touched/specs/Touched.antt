@@ -1,5 +1,5 @@
--- Which points to redo after a correction of one latitude row: whether an accepted correction of the minute's row may change what geographic to plane answers to a geographic
--- point, or plane to geographic to a plane point. Convergence and scale it never changes. s is the sheet, r the row of the minute, counted from 0. North and west are a latitude and
+-- Which points to redo after a correction of one latitude row. Of a geographic point: whether an accepted correction of the minute's row may change what geographic to plane answers.
+-- Of a plane point: the same for plane to geographic. Convergence and scale it never changes. s is the sheet, r the row of the minute, counted from 0. North and west are a latitude and
 -- a west longitude in 0.001″; x and y are in 0.01 ft.
 use mathlib.Core.Bool.{Bool, false, _&&_}
 use mathlib.Core.List.{List}
@@ -25,7 +25,7 @@ touch number touched = record { number = number; touched = touched }
 abbrev pub noTouch : ℕ → Touch
 noTouch number = touch number false
 
--- The sheet has a latitude row with the minute, and which it is: as a correction finds it.
+-- Whether the sheet has a latitude row with the minute, and that row's number, both as a correction finds them.
 abbrev pub hasMinute : List ℕ → ℤ → Bool
 hasMinute s minute = hasRow (bodyOf s latitude) (rowsOf s latitude) minute
 
@@ -33,7 +33,7 @@ abbrev pub rowNamed : List ℕ → ℤ → ℕ
 rowNamed s minute = namedRow (bodyOf s latitude) minute
 
 -- ---- a geographic point
--- The latitude lies less than a minute from the row's: in one of the two intervals beside it, and on neither of the rows next to it.
+-- The latitude lies less than a minute from the row's: on the row, or between it and a row next to it, but not on that next row.
 unfoldable pub nearRow : ℤ → ℤ → Bool
 nearRow minute north = ltb (natAbs (north -ℤ minute *ℤ pos oneMinute)) oneMinute
 
@@ -45,16 +45,16 @@ forwardTouched s minute north west =
     (nearRow minute north))
 
 -- ---- a plane point, judged by its reduced northing
--- It lies above y0 of the row before. The first row has none: there it is not below the least y0 that the bound with the next row allows, "y0 rises by 600,000 to 615,000".
+-- The reduced northing lies above y0 of the row before. The first row has none: there it is not below the least y0 that the bound with the next row allows, "y0 rises by 600,000 to 615,000".
 unfoldable pub abovePrior : List ℕ → ℕ → ℤ → Bool
 abovePrior s r reduced = whereBelow 0 r (ltZ (y0Of s (r - 1)) reduced) (leZ (y0Of s (r + 1) -ℤ pos mostRise) reduced)
 
--- It lies below y0 of the next row. The last row has none: there it is not above the greatest y0 that the bound with the row before allows.
+-- The reduced northing lies below y0 of the next row. The last row has none: there it is not above the greatest y0 that the bound with the row before allows.
 unfoldable pub belowNext : List ℕ → ℕ → ℤ → Bool
 belowNext s r reduced = whereBelow (r + 1) (rowsOf s latitude) (ltZ reduced (y0Of s (r + 1))) (leZ reduced (y0Of s (r - 1) +ℤ pos mostRise))
 
--- What 12 or 13 refuses stays refused. What 14 refuses may not, since a correction of the first row moves the first y0 and one of the last row the last; nor what 11 refuses, since
--- L is worked from H and a.
+-- What 12 or 13 refuses stays refused. What 14 refuses may come to be answered, since a correction of the first or the last row moves the first or the last y0; so may
+-- what 11 refuses, since L is worked from H and a.
 unfoldable pub inverseTouched : List ℕ → ℕ → ℤ → ℤ → Bool
 inverseTouched s r x y =
     need (eastingKnown s (xPrime s x)) false

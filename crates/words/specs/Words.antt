@@ -1,5 +1,5 @@
 -- "A sheet is words of four bytes, big-endian, two's complement."
--- A sheet is a list of bytes, each below 256, and a word has a number, from 0. A byte past the end reads 0. Who counts on a word sees to it that it is there.
+-- A sheet is a list of bytes, each below 256, and a word has a number, from 0. A byte past the end reads 0. What relies on a word first makes sure that the sheet has it.
 use mathlib.Core.Bool.{cond}
 use mathlib.Core.List.{List}
 use Prim.Native.Nat.{ℕ, suc, _+_, _-_, _*_, _/_, _%_}
