@@ -21,7 +21,7 @@ index-here : (b : ℕ) (text : List ℕ) → eqb b 10 ≡ true → indexOf 10 (b
 unfolding indexOf indexAfter
 index-here b text t = rw t
 
-index-there : (b : ℕ) (text : List ℕ) → eqb b 10 ≡ false → indexOf 10 (b ∷ text) ≡ suc (indexOf 10 text)
+pub index-there : (b : ℕ) (text : List ℕ) → eqb b 10 ≡ false → indexOf 10 (b ∷ text) ≡ suc (indexOf 10 text)
 unfolding indexOf indexAfter
 index-there b text t = rw t
 

@@ -1,0 +1,16 @@
+-- `stream::goes_on` meets its contract. Assumes nothing.
+use borrow.Author.Needs.{needs}
+use mathlib.Core.Path.{refl}
+use Rattle.stream.specs.Stream.{goesOn}
+use Rattle.stream.proofs.goes_on.Statement.{statement}
+use Rattle.stream.proofs.goes_on.Tie as tie
+
+shared-slice-read-result : tie.Need-shared-slice-read-result
+shared-slice-read-result c = search needs
+
+returns : tie.Need-returns
+unfolding goesOn
+returns c = refl
+
+pub goes-on-spec : {M : Type 1} → statement M
+goes-on-spec = tie.close (tie.spec shared-slice-read-result returns)
