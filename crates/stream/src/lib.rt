@@ -4,15 +4,14 @@ ghost use mathlib.Core.Path.{_≡_};
 ghost use Prim.Native.Nat.{_+_, _≤_, _<_, min};
 ghost use mathlib.Core.List.{_++_};
 ghost use lib.ListN.{length, take, drop};
+ghost use lib.Seq.{slice};
+ghost use Rattle.bytes.specs.Bytes.{indexOf};
+ghost use Rattle.stream.specs.Stream.{goesOn, allGoOn, mostKept};
 
 pub const LINE_FEED: u8 = 10;
 
 // The most bytes that are kept of a line that has not ended: one more than the longest name, 255, and more than the longest line of a known form, 25.
 pub const MOST_KEPT: usize = 256;
-
-ghost use Rattle.bytes.specs.Bytes.{indexOf};
-ghost use lib.Seq.{slice};
-ghost use Rattle.stream.specs.Stream.{goesOn, allGoOn, mostKept};
 
 // Whether byte i is no line feed.
 fn goes_on(b: &[u8], i: usize) -> bool
@@ -22,7 +21,7 @@ fn goes_on(b: &[u8], i: usize) -> bool
     b[i] != LINE_FEED
 }
 
-// Whether none of the eight bytes from i on is one. All are looked at, so that there is one jump for eight bytes.
+// Whether none of the eight bytes from i on is a line feed. All are looked at, so that there is one jump for eight bytes.
 fn eight_go_on(b: &[u8], i: usize) -> bool
     requires { ⌜ i + 8 ≤ length (now b) ⌝ }
     ensures { λ r. ⌜ r ≡ allGoOn (now (b .entry)) i 8 ⌝ }
