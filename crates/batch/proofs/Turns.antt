@@ -10,9 +10,9 @@ use lib.Dec.{leb, eqb}
 use lib.IntN.{ℤ}
 use lib.ListN.{length, drop, length-append, length-drop}
 use lib.Seq.{sets, sets-eq, take-at, drop-append-add, drop-drop}
-use Rattle.words.specs.Ladder.{need}
-use Rattle.words.proofs.Refusals.{stop, go, is, is-not, refused, passed-on}
-use Rattle.bodies.specs.Check.{checkOf}
+use Rattle.refusals.specs.Ladder.{need}
+use Rattle.refusals.proofs.Ladders.{stop, go, is, is-not, refused, passed-on}
+use Rattle.sheet_check.specs.Check.{checkOf}
 use Rattle.extent.specs.Extent.{latitudeKnown, longitudeKnown}
 use Rattle.forward.specs.Forward.{noPlane, planeAt, planeFrom, forwardOf}
 use Rattle.batch.specs.Batch.{oneIfAnswered, pairs, pointAt, wordsOf, words, answered, afterPairs, taken, batched, batchOf, answersOf}

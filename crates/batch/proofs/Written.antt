@@ -8,9 +8,9 @@ use native.Mathlib.Omega.{arith}
 use lib.IntN.{ℤ, pos}
 use lib.ListN.{length, getD, drop, List·getD-append}
 use lib.Seq.{getD-append-add, getD-drop}
-use Rattle.words.specs.Ladder.{need, whereIs}
-use Rattle.words.proofs.Refusals.{past, passed-on}
-use Rattle.bodies.specs.Check.{checkOf}
+use Rattle.refusals.specs.Ladder.{need, whereIs}
+use Rattle.refusals.proofs.Ladders.{past, passed-on}
+use Rattle.sheet_check.specs.Check.{checkOf}
 use Rattle.batch.specs.declared.Batched.{Batched}
 use Rattle.batch.specs.Batch.{pairs, pointAt, wordsOf, words, answered, afterPairs, taken, batched, batchOf, answersOf}
 use Rattle.batch.proofs.Turns.{length-words}

@@ -5,8 +5,8 @@ use mathlib.Core.Bool.{Bool, _&&_, cond}
 use lib.IntN.{ℤ, pos}
 use lib.ListN.{length, getD, drop}
 use lib.Dec.{leb, eqb}
-use Rattle.words.specs.Ladder.{need, orElse, whereIs}
-use Rattle.bodies.specs.Check.{checkOf}
+use Rattle.refusals.specs.Ladder.{need, orElse, whereIs}
+use Rattle.sheet_check.specs.Check.{checkOf}
 use Rattle.forward.specs.declared.Plane.{Plane}
 use Rattle.convert.specs.Conversions.{geographicToPlane}
 use Rattle.batch.specs.declared.Batched.{Batched}

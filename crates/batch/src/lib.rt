@@ -9,7 +9,7 @@ ghost use Prim.Native.Nat.{_+_, _*_, _≤_, _<_};
 ghost use lib.IntN.{pos};
 ghost use lib.ListN.{length};
 ghost use lib.Seq.{sets};
-ghost use Rattle.bodies.specs.Check.{KnownToPass};
+ghost use Rattle.sheet_check.specs.Check.{KnownToPass};
 ghost use Rattle.tables.specs.Figures.{originOf};
 ghost use Rattle.batch.specs.Batch.{oneIfAnswered, pointAt, wordsOf, pairs, answered, afterPairs, taken, batchOf, answersOf};
 
@@ -83,7 +83,7 @@ pub fn batch(sheet: &[u8], points: &[i32], answers: &mut [i32]) -> Batched
             count: 0,
         };
     }
-    let number = bodies::check(sheet).number;
+    let number = sheet_check::check(sheet).number;
     if number != 0 {
         return Batched { number, count: 0 };
     }

@@ -9,10 +9,10 @@ use borrow.Author.Tests.{lt-leb}
 use lib.Dec.{eqb}
 use lib.ListN.{length, take}
 use lib.Seq.{take-all, length-take-le}
-use Rattle.words.specs.Ladder.{whereIs}
-use Rattle.bodies.specs.Check.{checkOf}
-use Rattle.asked.specs.Asked.{lineOf}
-use Rattle.asked.proofs.Forms.{too-long}
+use Rattle.refusals.specs.Ladder.{whereIs}
+use Rattle.sheet_check.specs.Check.{checkOf}
+use Rattle.point_line.specs.PointLine.{lineOf}
+use Rattle.point_line.proofs.Forms.{too-long}
 use Rattle.lines.specs.Lines.{answerText}
 use Rattle.stream.specs.Stream.{linesOf, mostKept}
 use Rattle.stream.specs.Pieces.{answers, after, written, inPieces, ByFront, joined}

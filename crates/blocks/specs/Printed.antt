@@ -6,8 +6,8 @@ use mathlib.Core.List.{List, [], _∷_, _++_}
 use lib.Dec.{leb, eqb}
 use lib.ListN.{length}
 use Rattle.bytes.specs.Bytes.{indexOf}
-use Rattle.words.specs.Ladder.{whereIs}
-use Rattle.bodies.specs.Check.{checkOf}
+use Rattle.refusals.specs.Ladder.{whereIs}
+use Rattle.sheet_check.specs.Check.{checkOf}
 use Rattle.lines.specs.Lines.{verdictLine, answerText}
 use Rattle.stream.specs.Stream.{linesOf}
 use Rattle.stream.specs.Pieces.{Way}

@@ -4,7 +4,7 @@ ghost use mathlib.Core.Path.{_≡_};
 ghost use Prim.Native.Nat.{_+_, _*_, _≤_};
 ghost use lib.ListN.{length, take};
 ghost use lib.Seq.{slice};
-ghost use Rattle.bodies.specs.Check.{KnownToPass};
+ghost use Rattle.sheet_check.specs.Check.{KnownToPass};
 ghost use Rattle.decimal.specs.Writing.{Wrote};
 ghost use Rattle.lines.specs.Lines.{lineRoom};
 ghost use Rattle.stream.specs.Stream.{lastLine, endedLines, unended};

@@ -5,7 +5,7 @@ use lib.IntN.{ℤ}
 use Rattle.contents.specs.declared.Verdict.{Verdict}
 use Rattle.forward.specs.declared.Plane.{Plane}
 use Rattle.inverse.specs.declared.Geographic.{Geographic}
-use Rattle.grid.specs.declared.Grid.{Grid}
+use Rattle.convergence.specs.declared.Grid.{Grid}
 use Rattle.touched.specs.declared.Touch.{Touch}
 use Rattle.batch.specs.declared.Batched.{Batched}
 use Rattle.door.specs.declared.Point.{Point}

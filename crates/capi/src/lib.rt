@@ -3,7 +3,7 @@
 use door::Answer;
 use door::Point;
 ghost use mathlib.Core.Path.{_≡_};
-ghost use Rattle.bodies.specs.Check.{checkOf};
+ghost use Rattle.sheet_check.specs.Check.{checkOf};
 ghost use Rattle.convert.specs.Conversions.{geographicToPlane, planeToGeographic, convergenceAndScale};
 ghost use Rattle.correct.specs.Correction.{correctionOf, correctedOf, figures};
 ghost use Rattle.touched.specs.Touched.{geographicTouched, planeTouched};
@@ -81,7 +81,7 @@ pub struct DoorAnswer {
 pub extern "C" fn bannerscale_check(sheet: &[u8]) -> CheckAnswer
     ensures { λ r. ⌜ r ≡ checkAnswer (checkOf (now (sheet .entry))) ⌝ }
 {
-    let v = bodies::check(sheet);
+    let v = sheet_check::check(sheet);
     CheckAnswer {
         number: v.number,
         kind: v.kind,

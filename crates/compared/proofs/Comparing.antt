@@ -6,10 +6,10 @@ use Prim.Native.Nat.{ℕ}
 use native.Mathlib.Omega.{arith}
 use borrow.Author.Tests.{not-true, not-false, eqb-true, eq-eqb}
 use lib.Dec.{eqb}
-use Rattle.rules.specs.Limits.{sameAs}
-use Rattle.rules.proofs.Ranges.{same-true, same-self}
+use Rattle.refusals.specs.Tests.{sameAs}
+use Rattle.refusals.proofs.Ranges.{same-true, same-self}
 use Rattle.decimal.specs.Writing.{Wrote}
-use Rattle.asked.specs.declared.Line.{Line}
+use Rattle.point_line.specs.declared.Line.{Line}
 use Rattle.lines.specs.declared.Values.{Values}
 use Rattle.lines.specs.Lines.{valuesOf}
 use Rattle.compared.specs.Compared.{sameValues, changes, changeLine, changeText, comparedText}

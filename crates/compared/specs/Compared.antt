@@ -3,9 +3,9 @@ use mathlib.Core.Bool.{Bool, not, cond, _&&_}
 use mathlib.Core.List.{List, [], _++_}
 use Prim.Native.Nat.{ℕ}
 use lib.Dec.{eqb}
-use Rattle.rules.specs.Limits.{sameAs}
+use Rattle.refusals.specs.Tests.{sameAs}
 use Rattle.decimal.specs.Writing.{sizeText, numberText}
-use Rattle.asked.specs.declared.Line.{Line}
+use Rattle.point_line.specs.declared.Line.{Line}
 use Rattle.lines.specs.declared.Values.{Values}
 use Rattle.lines.specs.Lines.{ended, answerLine, valuesOf}
 

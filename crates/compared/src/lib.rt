@@ -1,13 +1,13 @@
 // One line of the points program, asked of an old sheet and of a new one.
-use asked::BLANK;
 use entries::Places;
 use lines::Values;
+use point_line::BLANK;
 ghost use mathlib.Core.Path.{_≡_};
 ghost use Prim.Native.Nat.{_+_, _≤_};
 ghost use lib.ListN.{length};
-ghost use Rattle.bodies.specs.Check.{KnownToPass};
+ghost use Rattle.sheet_check.specs.Check.{KnownToPass};
 ghost use Rattle.decimal.specs.Writing.{Wrote};
-ghost use Rattle.asked.specs.Asked.{isForm, lineOf};
+ghost use Rattle.point_line.specs.PointLine.{isForm, lineOf};
 ghost use Rattle.differing.specs.Differing.{differingRows};
 ghost use Rattle.reached.specs.Reached.{reaches};
 ghost use Rattle.compared.specs.Compared.{sameValues, changes, valuesText, changeLine, changeText, comparedText, changeRoom};
@@ -35,7 +35,9 @@ pub const CHANGE_ROOM: usize = 154;
 fn same_values(v: Values, w: Values) -> bool
     ensures { λ r. ⌜ r ≡ sameValues v w ⌝ }
 {
-    (v.number == w.number) & rules::same_as(v.first, w.first) & rules::same_as(v.second, w.second)
+    (v.number == w.number)
+        & refusals::same_as(v.first, w.first)
+        & refusals::same_as(v.second, w.second)
 }
 
 // ---- what is written
@@ -87,13 +89,13 @@ pub fn compare_line(
     ensures reached { λ r. ⌜ r .reached ≡ reaches (now (old .entry)) (now (new .entry)) (lineOf (now (line .entry))) (differingRows (now (old .entry)) (now (new .entry))) ⌝ }
     ensures text { λ r. ⌜ (r .next ≤ at + changeRoom) × Wrote (now (out .entry)) (now (out .exit)) at (r .next) (comparedText (now (old .entry)) (now (new .entry)) n (lineOf (now (line .entry)))) ⌝ }
 {
-    let l = asked::line_of(line);
+    let l = point_line::line_of(line);
     let v = lines::values_of(old, places.old, l);
     let w = lines::values_of(new, places.new, l);
     let changed = !same_values(v, w);
     let next = put_where(changed, out, at, n, v, w);
     Compared {
-        point: asked::is_form(l.form),
+        point: point_line::is_form(l.form),
         changed,
         reached: reached::is_reached(old, places.old, new, places.new, l),
         next,

@@ -8,9 +8,9 @@ use native.Mathlib.Omega.{arith}
 use lib.Dec.{leb, eqb}
 use lib.ListN.{length}
 use borrow.Author.Tests.{leb-true, eqb-true, lt-leb}
-use Rattle.figures.proofs.Tests.{both}
-use Rattle.words.specs.Ladder.{need}
-use Rattle.words.proofs.Refusals.{kept}
+use Rattle.rounding.proofs.Tests.{both}
+use Rattle.refusals.specs.Ladder.{need}
+use Rattle.refusals.proofs.Ladders.{kept}
 use Rattle.entries.specs.declared.Form.{Form}
 use Rattle.entries.specs.Layout.{Small, leastBytes, mostBytes, mostKinds}
 use Rattle.entries.specs.Entries.{kindAt, formOf}

@@ -3,11 +3,11 @@ use mathlib.Core.Path.{_≡_, ap}
 use mathlib.Core.List.{List}
 use Prim.Native.Nat.{ℕ, _≤_}
 use native.Mathlib.Omega.{arith}
-use Rattle.words.specs.declared.Fault.{Fault}
-use Rattle.words.specs.Ladder.{orElse}
-use Rattle.words.specs.Faults.{firstFault}
-use Rattle.words.proofs.FirstFault.{place-small}
-use Rattle.words.proofs.Refusals.{refused, passed-on}
+use Rattle.refusals.specs.declared.Fault.{Fault}
+use Rattle.refusals.specs.Ladder.{orElse}
+use Rattle.refusals.specs.Faults.{firstFault}
+use Rattle.refusals.proofs.FirstFault.{place-small}
+use Rattle.refusals.proofs.Ladders.{refused, passed-on}
 use Rattle.contents.specs.declared.Verdict.{Verdict}
 use Rattle.entries.specs.declared.Form.{Form}
 use Rattle.entries.specs.Layout.{Small, mostKinds}

@@ -9,11 +9,11 @@ use lib.Dec.{eqb, lit<}
 use lib.ListN.{length}
 use borrow.Author.Tests.{eq-eqb, eqb-true, not-true}
 use Rattle.words.specs.Words.{unsignedAt}
-use Rattle.words.specs.Ladder.{need, orElse}
-use Rattle.words.specs.Faults.{firstFault}
-use Rattle.words.proofs.FirstFault.{all-pass}
+use Rattle.refusals.specs.Ladder.{need, orElse}
+use Rattle.refusals.specs.Faults.{firstFault}
+use Rattle.refusals.proofs.FirstFault.{all-pass}
 use Rattle.words.proofs.PartWords.{length-partOf}
-use Rattle.words.proofs.Refusals.{rung, past, each-passes}
+use Rattle.refusals.proofs.Ladders.{rung, past, each-passes}
 use Rattle.entries.specs.declared.Form.{Form}
 use Rattle.entries.specs.Layout.{Small, mostKinds, lastKind, firstBody, leastBytes, mostBytes, namesForm, widthOf, leastRows, mostRows, usualStep}
 use Rattle.entries.specs.Entries.{kindAt, startAt, rowsAt, spanAt, named, dueAt, formOf, kindsOf, theEntry, startOf, rowsOf, stepOf, bodyOf}

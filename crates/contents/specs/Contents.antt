@@ -5,10 +5,10 @@ use mathlib.Core.Path.{_≡_}
 use Prim.Native.Nat.{ℕ, _+_, _*_, _%_, _≤_}
 use lib.Dec.{leb, eqb}
 use lib.ListN.{length}
-use Rattle.words.specs.declared.Fault.{Fault}
+use Rattle.refusals.specs.declared.Fault.{Fault}
 use Rattle.words.specs.Words.{unsignedAt}
-use Rattle.words.specs.Ladder.{need, orElse}
-use Rattle.words.specs.Faults.{firstFault}
+use Rattle.refusals.specs.Ladder.{need, orElse}
+use Rattle.refusals.specs.Faults.{firstFault}
 use Rattle.contents.specs.declared.Verdict.{Verdict}
 use Rattle.entries.specs.declared.Form.{Form}
 use Rattle.entries.specs.declared.Place.{Place}

@@ -1,13 +1,13 @@
 // The contents of a sheet: its length, word 0, the entries and the end, numbers 1 to 5; and each kind's body, once they have no fault.
 use entries::Form;
 use entries::Place;
-use words::Fault;
+use refusals::Fault;
 ghost use mathlib.Core.Path.{_≡_};
 ghost use Prim.Native.Nat.{_*_, _<_, _≤_};
 ghost use lib.ListN.{length};
 ghost use lib.Dec.{eqb};
 ghost use Rattle.words.specs.Words.{unsignedAt};
-ghost use Rattle.words.specs.Faults.{firstFault};
+ghost use Rattle.refusals.specs.Faults.{firstFault};
 ghost use Rattle.entries.specs.Layout.{HasContents, mostKinds, leastRows, mostRows, namesForm, widthOf};
 ghost use Rattle.entries.specs.Entries.{kindAt, startAt, rowsAt, dueAt, bodyOf};
 ghost use Rattle.contents.specs.Contents.{within, entryFault, sized, ends, contentsBy, contentsOf, Placed};
@@ -25,13 +25,6 @@ fn is_within(least: usize, n: usize, most: usize) -> bool
     ensures { λ r. ⌜ r ≡ within least n most ⌝ }
 {
     (least <= n) & (n <= most)
-}
-
-// Whether a is b.
-fn same(a: usize, b: usize) -> bool
-    ensures { λ r. ⌜ r ≡ eqb a b ⌝ }
-{
-    a == b
 }
 
 // Whether entry e names one of the form's kinds.
@@ -60,7 +53,7 @@ fn starts_at(s: &[u8], f: Form, e: usize, due: usize) -> bool
     requires { ⌜ HasContents f (now s) × (e < f .kinds) × (due ≡ dueAt f (now s) e) ⌝ }
     ensures { λ r. ⌜ r ≡ eqb (startAt f (now (s .entry)) e) (dueAt f (now (s .entry)) e) ⌝ }
 {
-    same(entries::start_at(s, f, e), due)
+    entries::start_at(s, f, e) == due
 }
 
 // The number of entry e's fault, 0 for none; due is the word at which its body has to start.
@@ -111,7 +104,7 @@ fn ends_sheet(s: &[u8], f: Form) -> bool
 {
     let last = f.kinds - 1;
     let end = entries::start_at(s, f, last) + entries::span_at(s, f, last);
-    same(4 * end, s.len())
+    4 * end == s.len()
 }
 
 // Whether the sheet has a length that a sheet of its form may have.
@@ -131,7 +124,7 @@ fn is_known(s: &[u8]) -> bool
     requires { ⌜ 4 ≤ length (now s) ⌝ }
     ensures { λ r. ⌜ r ≡ namesForm (unsignedAt (now (s .entry)) 0) ⌝ }
 {
-    entries::names_form(entries::size_at(s, 0))
+    entries::names_form(entries::count_at(s, 0))
 }
 
 // The first fault of the entries of a form and the end.

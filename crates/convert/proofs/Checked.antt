@@ -4,18 +4,18 @@ use mathlib.Core.List.{List}
 use Prim.Native.Nat.{ℕ, _≤_}
 use lib.IntN.{ℤ}
 use lib.ListN.{length}
-use Rattle.words.proofs.Refusals.{refused, passed-on}
+use Rattle.refusals.proofs.Ladders.{refused, passed-on}
 use Rattle.entries.specs.Layout.{leastBytes}
 use Rattle.entries.specs.Entries.{formOf}
 use Rattle.contents.proofs.Passing.{passed}
-use Rattle.bodies.specs.Check.{checkOf}
-use Rattle.bodies.proofs.Known.{contents-none}
+use Rattle.sheet_check.specs.Check.{checkOf}
+use Rattle.sheet_check.proofs.Known.{contents-none}
 use Rattle.forward.specs.declared.Plane.{Plane}
 use Rattle.inverse.specs.declared.Geographic.{Geographic}
-use Rattle.grid.specs.declared.Grid.{Grid}
+use Rattle.convergence.specs.declared.Grid.{Grid}
 use Rattle.forward.specs.Forward.{noPlane, forwardOf}
 use Rattle.inverse.specs.Inverse.{noGeographic, inverseOf}
-use Rattle.grid.specs.Grid.{noGrid, gridOf}
+use Rattle.convergence.specs.Grid.{noGrid, gridOf}
 use Rattle.convert.specs.Conversions.{afterCheck, geographicToPlane, planeToGeographic, convergenceAndScale}
 
 -- ---- `refuse` carries a number

@@ -5,10 +5,10 @@ use mathlib.Core.List.{List}
 use Prim.Native.Nat.{ℕ}
 use lib.Dec.{eqb}
 use lib.IntN.{ℤ, pos}
-use Rattle.words.specs.Ladder.{need, orElse}
+use Rattle.refusals.specs.Ladder.{need, orElse}
 use Rattle.forward.specs.Forward.{forwardOf, planeAt, planeFrom}
 use Rattle.inverse.specs.Inverse.{inverseOf, fromReduced, fromDistance, geographicAt}
-use Rattle.grid.specs.Grid.{gridOf, gridAt}
+use Rattle.convergence.specs.Grid.{gridOf, gridAt}
 use Rattle.convert.specs.Conversions.{geographicToPlane, planeToGeographic, convergenceAndScale}
 
 -- ---- "A refused conversion carries zeros", and no half: a ladder's answer, where each of its rungs does

@@ -2,14 +2,14 @@
 use mathlib.Core.List.{List}
 use Prim.Native.Nat.{ℕ}
 use lib.IntN.{ℤ}
-use Rattle.words.specs.Ladder.{orElse}
-use Rattle.bodies.specs.Check.{checkOf}
+use Rattle.refusals.specs.Ladder.{orElse}
+use Rattle.sheet_check.specs.Check.{checkOf}
 use Rattle.forward.specs.declared.Plane.{Plane}
 use Rattle.forward.specs.Forward.{noPlane, forwardOf}
 use Rattle.inverse.specs.declared.Geographic.{Geographic}
 use Rattle.inverse.specs.Inverse.{noGeographic, inverseOf}
-use Rattle.grid.specs.declared.Grid.{Grid}
-use Rattle.grid.specs.Grid.{noGrid, gridOf}
+use Rattle.convergence.specs.declared.Grid.{Grid}
+use Rattle.convergence.specs.Grid.{noGrid, gridOf}
 
 -- "Each conversion gives the check's number first, then its own": `refuse` makes the refusal with a number, `number` reads an answer's number, and `rest` is the answer after a check that passes.
 abbrev pub afterCheck : {A : Type 0} → (A → ℕ) → (ℕ → A) → List ℕ → A → A

@@ -1,6 +1,6 @@
 // The Survey's conversions on any bytes: geographic to plane, plane to geographic, convergence and scale. The bytes are checked first.
+use convergence::Grid;
 use forward::Plane;
-use grid::Grid;
 use inverse::Geographic;
 ghost use mathlib.Core.Path.{_≡_};
 ghost use Rattle.convert.specs.Conversions.{geographicToPlane, planeToGeographic, convergenceAndScale};
@@ -9,7 +9,7 @@ ghost use Rattle.convert.specs.Conversions.{geographicToPlane, planeToGe
 pub fn geographic_to_plane(sheet: &[u8], latitude: i32, longitude: i32) -> Plane
     ensures { λ r. ⌜ r ≡ geographicToPlane (now (sheet .entry)) latitude longitude ⌝ }
 {
-    let number = bodies::check(sheet).number;
+    let number = sheet_check::check(sheet).number;
     if number != 0 {
         return Plane {
             number,
@@ -25,7 +25,7 @@ pub fn geographic_to_plane(sheet: &[u8], latitude: i32, longitude: i32) -> Plane
 pub fn plane_to_geographic(sheet: &[u8], x: i32, y: i32) -> Geographic
     ensures { λ r. ⌜ r ≡ planeToGeographic (now (sheet .entry)) x y ⌝ }
 {
-    let number = bodies::check(sheet).number;
+    let number = sheet_check::check(sheet).number;
     if number != 0 {
         return Geographic {
             number,
@@ -41,7 +41,7 @@ pub fn plane_to_geographic(sheet: &[u8], x: i32, y: i32) -> Geographic
 pub fn convergence_and_scale(sheet: &[u8], x: i32, y: i32) -> Grid
     ensures { λ r. ⌜ r ≡ convergenceAndScale (now (sheet .entry)) x y ⌝ }
 {
-    let number = bodies::check(sheet).number;
+    let number = sheet_check::check(sheet).number;
     if number != 0 {
         return Grid {
             number,
@@ -50,5 +50,5 @@ pub fn convergence_and_scale(sheet: &[u8], x: i32, y: i32) -> Grid
             half: false,
         };
     }
-    grid::convergence(sheet, entries::places_of(sheet), x, y)
+    convergence::convergence(sheet, entries::places_of(sheet), x, y)
 }

@@ -8,9 +8,9 @@ use lib.Dec.{eqb}
 use lib.IntN.{ℤ}
 use lib.ListN.{length, take, drop}
 use borrow.Rule.Slice.PartMut.{putMid}
-use Rattle.words.specs.Ladder.{whereIs}
+use Rattle.refusals.specs.Ladder.{whereIs}
 use Rattle.words.specs.Parts.{putPart}
-use Rattle.words.proofs.Refusals.{is, is-not, refused, passed-on}
+use Rattle.refusals.proofs.Ladders.{is, is-not, refused, passed-on}
 use Rattle.words.proofs.PuttingParts.{part-back, put-back}
 use Rattle.entries.specs.declared.Place.{Place}
 use Rattle.contents.specs.declared.Verdict.{Verdict}
@@ -19,7 +19,8 @@ use Rattle.entries.specs.Entries.{startOf, rowsOf, bodyOf}
 use Rattle.contents.specs.Contents.{numberOf, contentsOf, Placed}
 use Rattle.contents.proofs.Cut.{cut-is}
 use Rattle.rules.specs.declared.Figures.{Figures}
-use Rattle.judge.specs.Judge.{namedRow, judgedBy}
+use Rattle.minute_row.specs.MinuteRow.{namedRow}
+use Rattle.judge.specs.Judge.{judgedBy}
 use Rattle.judge.proofs.Kept.{Kept, zero-keeps}
 use Rattle.correct.specs.Correction.{correctionOf, rewritten, correctedBody, withRow, correctedOf}
 

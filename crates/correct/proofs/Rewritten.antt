@@ -9,13 +9,13 @@ use native.Mathlib.Decide.{decLt}
 use native.Mathlib.Omega.{arith}
 use lib.ListN.{length}
 use Rattle.words.specs.Words.{wordAt}
-use Rattle.words.specs.Ladder.{whereBelow}
-use Rattle.words.proofs.Refusals.{where-below, where-beyond}
+use Rattle.refusals.specs.Ladder.{whereBelow}
+use Rattle.refusals.proofs.Ladders.{where-below, where-beyond}
 use Rattle.entries.specs.Layout.{latitude, widthOf, rowBytes}
 use Rattle.rules.specs.declared.Figures.{Figures}
 use Rattle.rules.specs.declared.Differences.{Differences}
 use Rattle.rules.specs.Latitude.{figuresInRange, withinBounds, differencesOf}
-use Rattle.rows.specs.Rows.{figuresAt, differencesAt}
+use Rattle.latitude_rows.specs.Rows.{figuresAt, differencesAt}
 use Rattle.judge.specs.Judge.{boundBefore, boundAfter}
 use Rattle.correct.specs.Correction.{putFigures, putDifferences, workedAt, reworked, rewritten}
 use Rattle.correct.proofs.Steps.{worked-with, rework-is}

@@ -11,7 +11,7 @@ use lib.IntN.{_-ℤ_}
 use lib.ListN.{length}
 use mir.Syntax.{w32}
 use mir.Val.{SFits}
-use Rattle.figures.proofs.Holds.{fits}
+use Rattle.rounding.proofs.Holds.{fits}
 use Rattle.steps.proofs.StepBounds.{per-second-most}
 use Rattle.words.specs.Words.{wordAt, putWord}
 use Rattle.words.proofs.Writing.{wordAt-put, wordAt-put-other, length-putWord}
@@ -20,7 +20,7 @@ use Rattle.rules.specs.declared.Figures.{Figures}
 use Rattle.rules.specs.declared.Differences.{Differences}
 use Rattle.rules.specs.Latitude.{figuresInRange, withinBounds, differencesOf, noDifferences}
 use Rattle.rules.proofs.WhatPasses.{figures-in, changes}
-use Rattle.rows.specs.Rows.{figuresAt, differencesAt}
+use Rattle.latitude_rows.specs.Rows.{figuresAt, differencesAt}
 use Rattle.correct.specs.Correction.{putFigures, putDifferences}
 
 -- words in a latitude row

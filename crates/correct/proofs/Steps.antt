@@ -4,12 +4,12 @@ use mathlib.Core.List.{List}
 use Prim.Native.Nat.{ℕ, _+_, _*_, _<_, _≤_}
 use lib.IntN.{ℤ}
 use Rattle.words.specs.Words.{putWord}
-use Rattle.words.proofs.Refusals.{where-below, where-beyond}
+use Rattle.refusals.proofs.Ladders.{where-below, where-beyond}
 use Rattle.entries.specs.Layout.{latitude, widthOf}
 use Rattle.rules.specs.declared.Figures.{Figures}
 use Rattle.rules.specs.declared.Differences.{Differences}
 use Rattle.rules.specs.Latitude.{differencesOf, noDifferences}
-use Rattle.rows.specs.Rows.{figuresAt}
+use Rattle.latitude_rows.specs.Rows.{figuresAt}
 use Rattle.correct.specs.Correction.{putFigures, putDifferences, workedAt, reworked}
 
 -- ---- the differences; g is the row, h the next

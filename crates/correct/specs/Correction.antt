@@ -6,15 +6,16 @@ use Prim.Native.Nat.{ℕ, _+_, _-_, _*_}
 use lib.IntN.{ℤ}
 use Rattle.words.specs.Words.{putWord}
 use Rattle.words.specs.Parts.{putPart}
-use Rattle.words.specs.Ladder.{whereBelow, whereIs, orElse}
+use Rattle.refusals.specs.Ladder.{whereBelow, whereIs, orElse}
 use Rattle.entries.specs.Layout.{latitude, widthOf}
 use Rattle.entries.specs.Entries.{startOf, rowsOf, bodyOf}
 use Rattle.contents.specs.Contents.{contentsOf}
 use Rattle.rules.specs.declared.Figures.{Figures}
 use Rattle.rules.specs.declared.Differences.{Differences}
 use Rattle.rules.specs.Latitude.{differencesOf, noDifferences}
-use Rattle.rows.specs.Rows.{figuresAt}
-use Rattle.judge.specs.Judge.{namedRow, judgedBy}
+use Rattle.latitude_rows.specs.Rows.{figuresAt}
+use Rattle.minute_row.specs.MinuteRow.{namedRow}
+use Rattle.judge.specs.Judge.{judgedBy}
 
 -- The new figures as one: y0 (0.01 ft), H (0.000001), V (0.000001), a (0.001).
 abbrev pub figures : ℤ → ℤ → ℤ → ℤ → Figures

@@ -37,7 +37,7 @@ fn differences_after(b: &[u8], n: usize, r: usize, f: Figures) -> Differences
     ensures { λ d. ⌜ d ≡ workedAt (putFigures (now (b .entry)) r f) n r ⌝ }
 {
     if r + 1 < n {
-        return rules::differences_of(f, rows::figures_at(b, r + 1));
+        return rules::differences_of(f, latitude_rows::figures_at(b, r + 1));
     }
     rules::no_differences()
 }
@@ -51,7 +51,7 @@ fn rewrite(b: &mut [u8], n: usize, r: usize, f: Figures)
     put_figures(b, r, f);
     put_differences(b, r, own);
     if 0 < r {
-        let before = rules::differences_of(rows::figures_at(b, r - 1), f);
+        let before = rules::differences_of(latitude_rows::figures_at(b, r - 1), f);
         put_differences(b, r - 1, before);
     }
 }
@@ -66,7 +66,7 @@ fn correct_body(b: &mut [u8], n: usize, minute: i32, f: Figures) -> u32
     if judged != 0 {
         return judged;
     }
-    let r = judge::named_row(b, n, minute);
+    let r = minute_row::named_row(b, n, minute);
     rewrite(b, n, r, f);
     judged
 }

@@ -1,8 +1,8 @@
 -- Two sheets that differ in no latitude row's figures answer every point alike. Assumes nothing.
 use mathlib.Core.Path.{_≡_, ap}
-use mathlib.Core.Bool.{Bool, true, _||_}
+use mathlib.Core.Bool.{Bool, _||_}
 use mathlib.Core.List.{List}
-use mathlib.Core.Logic.{_⊎_, inl, inr}
+use mathlib.Core.Logic.{inl}
 use Prim.Native.Nat.{ℕ, _+_, _-_}
 use native.Mathlib.Omega.{arith}
 use lib.IntN.{ℤ, natAbs}
@@ -11,7 +11,7 @@ use Rattle.entries.specs.Layout.{latitude}
 use Rattle.entries.specs.Entries.{rowsOf}
 use Rattle.row_search.proofs.SameRow.{same-row}
 use Rattle.tables.specs.Figures.{y0Of}
-use Rattle.extent.specs.Extent.{fromFirst, xPrime, eastingKnown, northingKnown, reducedKnown}
+use Rattle.extent.specs.Extent.{fromFirst, xPrime, reducedKnown}
 use Rattle.forward.specs.Forward.{forwardOf}
 use Rattle.inverse.specs.Inverse.{reducedNorthing, reducedHalf, rowOf, secondsPast, secondsPastHalf, distanceOf, distanceHalf, fromReduced, inverseOf}
 use Rattle.corrected.proofs.Beside.{Beside, Outside, latitude-rows, x-prime-same, easting-same, northing-same, y0-row-same}

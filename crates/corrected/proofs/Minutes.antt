@@ -7,17 +7,17 @@ use Prim.Native.Nat.{ℕ, suc, _+_, _-_, _*_, _≤_}
 use native.Mathlib.Decide.{decLe}
 use native.Mathlib.Omega.{arith}
 use lib.IntN.{ℤ, pos, negℤ, natAbs, _+ℤ_, _-ℤ_, _*ℤ_, +ℤ-assoc, +ℤ-invl, +ℤ-idl, +ℤ-negℤ-cancel}
-use Rattle.figures.proofs.Sizes.{pos-minus, subℕ-le, subℕ-lt}
-use Rattle.figures.proofs.Ring.{difference-times}
+use Rattle.rounding.proofs.Sizes.{pos-minus, subℕ-le, subℕ-lt}
+use Rattle.rounding.proofs.Ring.{difference-times}
 use Rattle.entries.specs.Layout.{latitude, oneMinute}
 use Rattle.entries.specs.Entries.{rowsOf, bodyOf}
-use Rattle.rows.specs.Rows.{rowAt}
-use Rattle.bodies.specs.Check.{checkOf}
+use Rattle.latitude_rows.specs.Rows.{rowAt}
+use Rattle.sheet_check.specs.Check.{checkOf}
 use Rattle.tables.specs.Figures.{firstLatitude}
 use Rattle.extent.specs.Extent.{fromFirst, latitudeKnown}
 use Rattle.extent.proofs.Reach.{latitude-reach}
-use Rattle.judge.specs.Judge.{fromFirstMinute}
-use Rattle.judge.proofs.Place.{row-size}
+use Rattle.minute_row.specs.MinuteRow.{fromFirstMinute}
+use Rattle.minute_row.proofs.Place.{row-size}
 use Rattle.touched.specs.Touched.{hasMinute, rowNamed}
 use Rattle.corrected.proofs.Beside.{Outside}
 

@@ -8,16 +8,16 @@ use native.Mathlib.Decide.{ℕ-discrete, decLt}
 use native.Mathlib.Omega.{arith}
 use lib.IntN.{pos}
 use lib.ListN.{length}
-use Rattle.figures.proofs.Tests.{both}
-use Rattle.words.proofs.Refusals.{where-below, where-beyond}
+use Rattle.rounding.proofs.Tests.{both}
+use Rattle.refusals.proofs.Ladders.{where-below, where-beyond}
 use Rattle.entries.specs.Layout.{latitude, rowBytes}
 use Rattle.rules.specs.declared.Figures.{Figures}
 use Rattle.rules.specs.declared.Differences.{Differences}
-use Rattle.rules.specs.Limits.{inRange}
+use Rattle.refusals.specs.Tests.{inRange}
 use Rattle.rules.specs.Latitude.{figuresInRange, withinBounds, differencesOf, noDifferences, sameDifferences}
-use Rattle.rules.proofs.Ranges.{same-self}
-use Rattle.rows.specs.Rows.{figuresAt, differencesAt, rowAt, rowInRange}
-use Rattle.rows.proofs.PassingRows.{LatitudeRow}
+use Rattle.refusals.proofs.Ranges.{same-self}
+use Rattle.latitude_rows.specs.Rows.{figuresAt, differencesAt, rowAt, rowInRange}
+use Rattle.latitude_rows.proofs.PassingRows.{LatitudeRow}
 use Rattle.judge.specs.Judge.{boundBefore, boundAfter}
 use Rattle.correct.specs.Correction.{workedAt, rewritten}
 use Rattle.correct.proofs.RowWords.{FiguresFit, DifferencesFit, figures-fit, differences-fit, none-fit}

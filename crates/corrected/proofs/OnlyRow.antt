@@ -11,11 +11,11 @@ use lib.Dec.{lit<, lit≤}
 use lib.IntN.{pos}
 use lib.ListN.{length, drop, getD, List·getD-eq-default}
 use lib.Seq.{getD-take, getD-drop, ext-getD}
-use Rattle.figures.proofs.Tests.{both}
+use Rattle.rounding.proofs.Tests.{both}
 use Rattle.words.specs.Words.{unsignedAt, signed32, wordAt}
-use Rattle.words.specs.Ladder.{whereBelow}
+use Rattle.refusals.specs.Ladder.{whereBelow}
 use Rattle.words.specs.Parts.{partOf, putPart}
-use Rattle.words.proofs.Refusals.{where-below, where-beyond}
+use Rattle.refusals.proofs.Ladders.{where-below, where-beyond}
 use Rattle.words.proofs.Writing.{putWord-keeps, length-putWord}
 use Rattle.words.proofs.PartWords.{length-partOf}
 use Rattle.words.proofs.PuttingParts.{same-word, length-putPart, before-part, after-part, part-put}
@@ -25,13 +25,13 @@ use Rattle.contents.specs.Contents.{contentsOf}
 use Rattle.contents.proofs.Passing.{its-entry, there as in-form, body-after, body-within, body-length}
 use Rattle.rules.specs.declared.Figures.{Figures}
 use Rattle.rules.specs.declared.Differences.{Differences}
-use Rattle.rules.specs.Limits.{inRange}
+use Rattle.refusals.specs.Tests.{inRange}
 use Rattle.rules.specs.Latitude.{figuresInRange, differencesOf, noDifferences}
-use Rattle.rows.specs.Rows.{figuresAt, differencesAt, rowAt, rowInRange}
-use Rattle.rows.proofs.PassingRows.{LatitudeRow}
-use Rattle.rows.proofs.PassingFigures.{differences-stated, last-differences}
-use Rattle.bodies.specs.Check.{checkOf}
-use Rattle.bodies.proofs.Sound.{passes-sound, latitude-rows}
+use Rattle.latitude_rows.specs.Rows.{figuresAt, differencesAt, rowAt, rowInRange}
+use Rattle.latitude_rows.proofs.PassingRows.{LatitudeRow}
+use Rattle.latitude_rows.proofs.PassingFigures.{differences-stated, last-differences}
+use Rattle.sheet_check.specs.Check.{checkOf}
+use Rattle.sheet_check.proofs.Sound.{passes-sound, latitude-rows}
 use Rattle.correct.specs.Correction.{putFigures, putDifferences, workedAt, reworked, rewritten, withRow}
 use Rattle.correct.proofs.RowWords.{figures-fit, length-putFigures, figures-elsewhere, figures-put, length-putDifferences, figures-by-differences}
 use Rattle.correct.proofs.Rewritten.{length-rewritten}

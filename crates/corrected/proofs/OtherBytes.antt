@@ -7,9 +7,9 @@ use native.Mathlib.Decide.{decLt}
 use native.Mathlib.Omega.{arith}
 use lib.ListN.{drop, getD}
 use lib.Seq.{getD-take, getD-drop}
-use Rattle.words.specs.Ladder.{whereBelow}
+use Rattle.refusals.specs.Ladder.{whereBelow}
 use Rattle.words.specs.Parts.{putPart}
-use Rattle.words.proofs.Refusals.{where-below, where-beyond}
+use Rattle.refusals.proofs.Ladders.{where-below, where-beyond}
 use Rattle.words.proofs.Writing.{putWord-keeps}
 use Rattle.words.proofs.PuttingParts.{before-part, after-part, part-put}
 use Rattle.entries.specs.Layout.{latitude, widthOf, rowBytes}

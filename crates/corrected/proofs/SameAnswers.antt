@@ -8,16 +8,16 @@ use native.Mathlib.Decide.{ℕ-discrete, decLt}
 use native.Mathlib.Omega.{arith}
 use lib.IntN.{ℤ, pos, natAbs, _-ℤ_, +ℤ-invr}
 use lib.Signed.{leZ}
-use Rattle.figures.specs.Nearest.{nearestSize, onHalfSize}
+use Rattle.rounding.specs.Nearest.{nearestSize, onHalfSize}
 use Rattle.steps.specs.Steps.{seconds, secondsHalf}
-use Rattle.figures.proofs.Order.{leZ-equal}
-use Rattle.figures.proofs.Rounding.{nearestSize-most}
-use Rattle.figures.proofs.Halves.{multiple-no-half}
-use Rattle.words.specs.Ladder.{need, whereBelow}
-use Rattle.words.proofs.Refusals.{where-below, where-beyond}
+use Rattle.rounding.proofs.Order.{leZ-equal}
+use Rattle.rounding.proofs.Rounding.{nearestSize-most}
+use Rattle.rounding.proofs.Halves.{multiple-no-half}
+use Rattle.refusals.specs.Ladder.{need, whereBelow}
+use Rattle.refusals.proofs.Ladders.{where-below, where-beyond}
 use Rattle.entries.specs.Layout.{latitude, oneMinute}
 use Rattle.entries.specs.Entries.{rowsOf}
-use Rattle.bodies.specs.Check.{checkOf}
+use Rattle.sheet_check.specs.Check.{checkOf}
 use Rattle.row_search.specs.Rows.{Rising}
 use Rattle.tables.specs.Figures.{y0Of}
 use Rattle.tables.proofs.Ranges.{y0-rising}
@@ -25,7 +25,7 @@ use Rattle.extent.specs.Extent.{fromFirst, latitudeKnown, lOf, longitudeKnown, 
 use Rattle.extent.proofs.Reach.{reduced-reach}
 use Rattle.forward.specs.Forward.{xSize, xOf, xHalf, yOf, yHalf, planeAt, planeFrom, forwardOf}
 use Rattle.inverse.specs.Inverse.{reducedNorthing, reducedHalf, rowOf, secondsPast, secondsPastHalf, distanceOf, distanceHalf, approximateOf, sizeOf, sizeHalf, longitudeOf, geographicAt, fromDistance, fromReduced, inverseOf}
-use Rattle.grid.specs.Grid.{convergenceAt, gridHalf, gridAt, gridOf}
+use Rattle.convergence.specs.Grid.{convergenceAt, gridHalf, gridAt, gridOf}
 use Rattle.inverse.proofs.Distances.{row-not-above, past-gap}
 use Rattle.corrected.proofs.Stands.{Aside, stands, stands-last, one-row, row-before, row-after}
 use Rattle.corrected.proofs.Beside.{Beside, Outside, latitude-rows, central-same, false-same, b-same, c-same, p-same, m-same, d-same, k-same, first-same, from-first-same, latitude-same, l-same, size-same, longitude-same, x-prime-same, easting-same, scale-same, northing-same, y0-row-same, y0-same, h-same, v-same, a-same, b-half-same, c-half-same, p-half-same, m-half-same, d-half-same, k-half-same, y0-half-same, h-half-same, v-half-same, a-half-same}

@@ -8,8 +8,8 @@ use native.Mathlib.Omega.{arith}
 use lib.Dec.{lit<}
 use lib.ListN.{length}
 use Rattle.words.specs.Words.{unsignedAt}
-use Rattle.words.specs.Faults.{firstFault}
-use Rattle.words.proofs.FirstFault.{same-faults}
+use Rattle.refusals.specs.Faults.{firstFault}
+use Rattle.refusals.proofs.FirstFault.{same-faults}
 use Rattle.entries.specs.declared.Form.{Form}
 use Rattle.entries.specs.Layout.{Small, formNamed, firstBody, usualStep}
 use Rattle.entries.specs.Entries.{entryWord, kindAt, startAt, rowsAt, stepAt, named, dueAt, entryOf, formOf, kindsOf, theEntry, startOf, rowsOf, stepOf}

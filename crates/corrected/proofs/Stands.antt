@@ -8,7 +8,7 @@ use native.Mathlib.Decide.{ℕ-discrete, decLt}
 use native.Mathlib.Omega.{arith}
 use lib.IntN.{ℤ}
 use lib.Signed.{leZ, ltZ}
-use Rattle.figures.proofs.Order.{leZ-refl, leZ-trans, ltZ-leZ, leZ-ltZ, ltZ-le, not-above-of, not-both}
+use Rattle.rounding.proofs.Order.{leZ-refl, leZ-trans, ltZ-leZ, leZ-ltZ, ltZ-le, not-above-of, not-both}
 use Rattle.row_search.specs.Rows.{lastNotAbove, Rising}
 use Rattle.row_search.proofs.SameRow.{same-row}
 use Rattle.row_search.proofs.LastRow.{last-below, last-not-above, later-above}

@@ -12,9 +12,9 @@ use lib.Seq.{getD-set-same, getD-set-other, getD-take, getD-drop}
 use mir.Syntax.{w32}
 use mir.Val.{SFits}
 use Rattle.words.specs.Words.{bits32, putBits, putWord}
-use Rattle.words.specs.Ladder.{whereBelow}
+use Rattle.refusals.specs.Ladder.{whereBelow}
 use Rattle.words.specs.Parts.{partOf, putPart}
-use Rattle.words.proofs.Refusals.{where-below, where-beyond}
+use Rattle.refusals.proofs.Ladders.{where-below, where-beyond}
 use Rattle.words.proofs.TwosComplement.{bits32-small}
 use Rattle.words.proofs.PuttingParts.{before-part, after-part, part-put}
 use Rattle.entries.specs.Layout.{latitude, widthOf, rowBytes}
@@ -22,11 +22,11 @@ use Rattle.entries.specs.Entries.{startOf, rowsOf, bodyOf}
 use Rattle.contents.specs.Contents.{contentsOf}
 use Rattle.rules.specs.declared.Figures.{Figures}
 use Rattle.rules.specs.Latitude.{figuresInRange, differencesOf, noDifferences}
-use Rattle.rows.specs.Rows.{figuresAt}
-use Rattle.rows.proofs.PassingRows.{LatitudeRow}
-use Rattle.bodies.specs.Check.{checkOf}
-use Rattle.bodies.proofs.Sound.{passes-sound, latitude-rows}
-use Rattle.bodies.proofs.Known.{contents-none}
+use Rattle.latitude_rows.specs.Rows.{figuresAt}
+use Rattle.latitude_rows.proofs.PassingRows.{LatitudeRow}
+use Rattle.sheet_check.specs.Check.{checkOf}
+use Rattle.sheet_check.proofs.Sound.{passes-sound, latitude-rows}
+use Rattle.sheet_check.proofs.Known.{contents-none}
 use Rattle.judge.specs.Judge.{boundBefore, boundAfter}
 use Rattle.correct.specs.Correction.{putFigures, putDifferences, workedAt, reworked, rewritten, withRow}
 use Rattle.correct.proofs.RowWords.{FiguresFit, DifferencesFit, figures-fit, differences-fit, none-fit, figures-elsewhere, figures-put, figures-by-differences}

@@ -8,17 +8,17 @@ use native.Mathlib.Decide.{ℕ-discrete}
 use native.Mathlib.Omega.{arith}
 use lib.Dec.{lit≤}
 use lib.ListN.{length}
-use Rattle.words.specs.Ladder.{whereIs}
+use Rattle.refusals.specs.Ladder.{whereIs}
 use Rattle.entries.specs.Layout.{latitude, lastKind, rowBytes}
 use Rattle.entries.specs.Entries.{rowsOf, bodyOf}
 use Rattle.contents.specs.Contents.{verdict, contentsOf}
 use Rattle.rules.specs.declared.Figures.{Figures}
 use Rattle.rules.specs.Latitude.{figuresInRange}
-use Rattle.rows.specs.Rows.{latitudeFault}
-use Rattle.rows.proofs.PassingRows.{LatitudeRow, latitude-passes}
-use Rattle.bodies.specs.Check.{rowFault, checkOf}
-use Rattle.bodies.proofs.Sound.{passes-sound, sound-passes, latitude-rows}
-use Rattle.bodies.proofs.Known.{contents-none}
+use Rattle.latitude_rows.specs.Rows.{latitudeFault}
+use Rattle.latitude_rows.proofs.PassingRows.{LatitudeRow, latitude-passes}
+use Rattle.sheet_check.specs.Check.{rowFault, checkOf}
+use Rattle.sheet_check.proofs.Sound.{passes-sound, sound-passes, latitude-rows}
+use Rattle.sheet_check.proofs.Known.{contents-none}
 use Rattle.judge.specs.Judge.{boundBefore, boundAfter}
 use Rattle.correct.specs.Correction.{rewritten, withRow}
 use Rattle.correct.proofs.RowWords.{FiguresFit}

@@ -27,7 +27,7 @@ fn print(number: u32) -> bool {
 // Corrects the sheet by the line and, where that is accepted, saves it under the name; then prints the number. Where it cannot be saved there is no number. Nothing is saved where standard output is
 // closed.
 fn run(sheet: &mut [u8], name: &[u8], line: &[u8]) {
-    let number = new_row::correct_by(sheet, line);
+    let number = row_line::correct_by(sheet, line);
     if number == UNKNOWN {
         files::say(
             b"the third line is not of the form minute y0 H V a, or there is more behind it\n",

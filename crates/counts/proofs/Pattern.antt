@@ -3,8 +3,7 @@
 use mathlib.Core.Path.{_≡_, refl, sym, ap, _∙_, subst}
 use mathlib.Core.Bool.{Bool, true, false, not, _&&_, cond}
 use Prim.Native.Nat.{ℕ, zero, suc, _+_, _-_, _*_, _/_, _%_, _^_, _≤_, _<_}
-use native.Mathlib.Nat.{le-trans, le-of-eq, lt-of-lt-of-le, lt-of-le-of-lt, le-suc, le-add-right, le-div-iff-mul-le}
-use native.Mathlib.Nat.{one-mul, mul-assoc, mul-right-comm, mul-le-mul-right, mul-pos, zero-mul, add-mul, div-add-mod', mod-lt, mod-eq-of-lt}
+use native.Mathlib.Nat.{le-trans, le-of-eq, lt-of-lt-of-le, lt-of-le-of-lt, le-suc, le-add-right, le-div-iff-mul-le, one-mul, mul-assoc, mul-right-comm, mul-le-mul-right, mul-pos, zero-mul, add-mul, div-add-mod', mod-lt, mod-eq-of-lt}
 use native.Mathlib.Omega.{arith}
 use lib.Dec.{T, leb, eqb, eqb·suc-zero, lit≤}
 use lib.Pow.{pow-add, pow-pos, pow-mono, shl-lt, shr-lt, shl-exact, field}

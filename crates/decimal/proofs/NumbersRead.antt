@@ -11,8 +11,8 @@ use lib.ListN.{drop, getD}
 use lib.Seq.{drop-drop}
 use mir.Syntax.{w32}
 use mir.Val.{SFits}
-use Rattle.words.specs.Ladder.{need}
-use Rattle.rules.specs.Limits.{inRange}
+use Rattle.refusals.specs.Ladder.{need}
+use Rattle.refusals.specs.Tests.{inRange}
 use Rattle.decimal.specs.declared.Digits.{Digits}
 use Rattle.decimal.specs.declared.Number.{Number}
 use Rattle.decimal.specs.Reading.{digitCount, valueAfter, digits, digitsOf, minusOf, number, noNumber, signedValue, signed, numberOf}

@@ -5,8 +5,8 @@ use mathlib.Core.List.{List, [], _∷_}
 use lib.Dec.{leb, ltb, eqb}
 use lib.IntN.{ℤ, pos, negℤ}
 use lib.ListN.{drop, getD}
-use Rattle.words.specs.Ladder.{need}
-use Rattle.rules.specs.Limits.{inRange}
+use Rattle.refusals.specs.Ladder.{need}
+use Rattle.refusals.specs.Tests.{inRange}
 use Rattle.decimal.specs.declared.Digits.{Digits}
 use Rattle.decimal.specs.declared.Number.{Number}
 

@@ -7,16 +7,16 @@ use Prim.Native.Nat.{ℕ, zero, suc, _-_, _<_}
 use native.Mathlib.Decide.{ℕ-discrete}
 use native.Mathlib.Omega.{arith}
 use lib.IntN.{ℤ, pos}
-use Rattle.figures.proofs.Tests.{both, never}
+use Rattle.rounding.proofs.Tests.{both, never}
 use Rattle.entries.specs.Layout.{latitude}
 use Rattle.entries.specs.Entries.{rowsOf, bodyOf}
-use Rattle.rules.specs.Limits.{inRange}
-use Rattle.rules.proofs.Ranges.{same-true}
-use Rattle.bodies.specs.Check.{checkOf}
+use Rattle.refusals.specs.Tests.{inRange}
+use Rattle.refusals.proofs.Ranges.{same-true}
+use Rattle.sheet_check.specs.Check.{checkOf}
 use Rattle.tables.proofs.Ranges.{latitude-some}
-use Rattle.judge.specs.Judge.{fromFirstMinute, namedRow, hasRow}
-use Rattle.judge.proofs.Place.{row-there}
-use Rattle.judge.proofs.Minutes.{each-named}
+use Rattle.minute_row.specs.MinuteRow.{fromFirstMinute, namedRow, hasRow}
+use Rattle.minute_row.proofs.Place.{row-there}
+use Rattle.minute_row.proofs.Minutes.{each-named}
 use Rattle.differing.specs.Differing.{minuteAt, rowDiffers, minuteWhere, differing, differingRows, anyOf, differsAt, isDiffering}
 
 -- ---- of tests

@@ -5,16 +5,16 @@ use mathlib.Core.List.{List}
 use Prim.Native.Nat.{ℕ, _*_}
 use borrow.Author.Tests.{not-true, not-false}
 use lib.IntN.{ℤ}
-use Rattle.figures.proofs.Tests.{both}
+use Rattle.rounding.proofs.Tests.{both}
 use Rattle.words.specs.Words.{wordAt}
-use Rattle.words.specs.Ladder.{need}
+use Rattle.refusals.specs.Ladder.{need}
 use Rattle.entries.specs.Layout.{latitude, widthOf}
 use Rattle.entries.specs.Entries.{rowsOf, bodyOf}
 use Rattle.rules.specs.declared.Figures.{Figures}
-use Rattle.rules.specs.Limits.{sameAs}
-use Rattle.rules.proofs.Ranges.{same-true}
-use Rattle.rows.specs.Rows.{figuresAt}
-use Rattle.judge.specs.Judge.{namedRow, hasRow}
+use Rattle.refusals.specs.Tests.{sameAs}
+use Rattle.refusals.proofs.Ranges.{same-true}
+use Rattle.latitude_rows.specs.Rows.{figuresAt}
+use Rattle.minute_row.specs.MinuteRow.{namedRow, hasRow}
 use Rattle.differing.specs.Differing.{sameFigures, rowDiffers, differsAt, isDiffering}
 
 -- ---- one row: t is the test of its minute

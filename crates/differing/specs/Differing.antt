@@ -3,13 +3,13 @@ use mathlib.Core.Bool.{Bool, true, false, not, cond, _&&_, _||_}
 use mathlib.Core.List.{List, [], _∷_, _++_}
 use Prim.Native.Nat.{ℕ, zero, suc}
 use lib.IntN.{ℤ}
-use Rattle.words.specs.Ladder.{need}
+use Rattle.refusals.specs.Ladder.{need}
 use Rattle.entries.specs.Layout.{latitude}
 use Rattle.entries.specs.Entries.{rowsOf, bodyOf}
 use Rattle.rules.specs.declared.Figures.{Figures}
-use Rattle.rules.specs.Limits.{sameAs}
-use Rattle.rows.specs.Rows.{figuresAt, rowAt}
-use Rattle.judge.specs.Judge.{namedRow, hasRow}
+use Rattle.refusals.specs.Tests.{sameAs}
+use Rattle.latitude_rows.specs.Rows.{figuresAt, rowAt}
+use Rattle.minute_row.specs.MinuteRow.{namedRow, hasRow}
 
 -- g's four figures are f's.
 unfoldable pub sameFigures : Figures → Figures → Bool

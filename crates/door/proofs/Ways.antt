@@ -4,8 +4,8 @@ use mathlib.Core.Path.{_≡_, refl, ap, _∙_}
 use Prim.Native.Nat.{ℕ}
 use lib.IntN.{ℤ}
 use borrow.Author.Tests.{eq-eqb, ne-eqb}
-use Rattle.words.specs.Ladder.{need}
-use Rattle.figures.proofs.Bits.{both-same}
+use Rattle.refusals.specs.Ladder.{need}
+use Rattle.rounding.proofs.Bits.{both-same}
 use Rattle.counts.specs.declared.Whole.{Whole}
 use Rattle.counts.specs.declared.Whole.the-variants as Whole
 use Rattle.door.specs.declared.Pair.{Pair}

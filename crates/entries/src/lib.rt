@@ -143,7 +143,7 @@ pub fn most_rows(kind: usize) -> usize
 }
 
 // Word i as a size, read without its sign.
-pub fn size_at(s: &[u8], i: usize) -> usize
+pub fn count_at(s: &[u8], i: usize) -> usize
     requires { ⌜ 4 * i + 4 ≤ length (now s) ⌝ }
     ensures { λ r. ⌜ (r ≡ unsignedAt (now (s .entry)) i) × (r < 4_294_967_296) ⌝ }
 {
@@ -155,7 +155,7 @@ pub fn form_of(s: &[u8]) -> Form
     requires { ⌜ 4 ≤ length (now s) ⌝ }
     ensures { λ r. ⌜ r ≡ formOf (now (s .entry)) ⌝ }
 {
-    form_named(size_at(s, 0))
+    form_named(count_at(s, 0))
 }
 
 // The word of the form's first body.
@@ -171,7 +171,7 @@ fn entry_word(s: &[u8], f: Form, e: usize, j: usize) -> usize
     requires { ⌜ HasContents f (now s) × (e < f .kinds) × (j < entryWords) ⌝ }
     ensures { λ r. ⌜ (r ≡ entryWord f (now (s .entry)) e j) × (r < 4_294_967_296) ⌝ }
 {
-    size_at(s, f.words * e + FIRST_ENTRY + j)
+    count_at(s, f.words * e + FIRST_ENTRY + j)
 }
 
 // Entry e's kind.

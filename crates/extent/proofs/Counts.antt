@@ -7,7 +7,7 @@ use native.Mathlib.Nat.{le-trans}
 use native.Mathlib.Omega.{arith}
 use lib.Dec.{lit≤}
 use lib.IntN.{ℤ}
-use Rattle.figures.specs.Ranges.{mostCount, mostStep}
+use Rattle.rounding.specs.Ranges.{mostCount, mostStep}
 use Rattle.entries.specs.declared.Place.{Place}
 use Rattle.entries.specs.declared.Places.{Places}
 use Rattle.entries.specs.Layout.{lastKind, latitude, mostRows, oneMinute}
@@ -15,8 +15,8 @@ use Rattle.entries.specs.Entries.{rowsOf, stepOf}
 use Rattle.entries.proofs.ByKind.{by-kind}
 use Rattle.contents.specs.Contents.{Placed}
 use Rattle.contents.proofs.Passing.{rows-some, rows-most}
-use Rattle.bodies.specs.Check.{KnownToPass}
-use Rattle.bodies.proofs.Known.{latitude-placed}
+use Rattle.sheet_check.specs.Check.{KnownToPass}
+use Rattle.sheet_check.proofs.Known.{latitude-placed}
 use Rattle.reading.specs.Tables.{withinRows}
 use Rattle.tables.proofs.Parts.{step-most, place-rows, place-step}
 

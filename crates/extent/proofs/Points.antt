@@ -9,7 +9,7 @@ use lib.IntN.{ℤ, pos, natAbs}
 use lib.Signed.{leZ}
 use mir.Syntax.{w32, w64}
 use mir.Val.{SFits, toZ, ofZ}
-use Rattle.figures.proofs.Holds.{Holds, held, held-size, size-i32, cast, cast-fits}
+use Rattle.rounding.proofs.Holds.{Holds, held, held-size, size-i32, cast, cast-fits}
 
 -- a point's number, widened
 pub wide : {z : ℤ} → SFits w32 z → Holds w64 (ofZ w64 (toZ w32 (ofZ w32 z))) z 2_147_483_648

@@ -8,14 +8,14 @@ use native.Mathlib.Omega.{arith}
 use lib.Dec.{lit≤}
 use lib.IntN.{ℤ, pos, natAbs}
 use lib.Signed.{leZ}
-use Rattle.figures.specs.Ranges.{mostS}
-use Rattle.figures.proofs.Sizes.{Size}
-use Rattle.figures.proofs.Tests.{both}
+use Rattle.rounding.specs.Ranges.{mostS}
+use Rattle.rounding.proofs.Sizes.{Size}
+use Rattle.rounding.proofs.Tests.{both}
 use Rattle.entries.specs.Layout.{latitude, longitude, northing, easting, scale, mostRows, oneMinute, farthest}
 use Rattle.entries.specs.Entries.{rowsOf, stepOf, lastOf, Within}
 use Rattle.contents.proofs.Passing.{rows-most, step-usual}
-use Rattle.bodies.specs.Check.{checkOf}
-use Rattle.bodies.proofs.Known.{contents-none}
+use Rattle.sheet_check.specs.Check.{checkOf}
+use Rattle.sheet_check.proofs.Known.{contents-none}
 use Rattle.reading.proofs.Span.{within-rows-size}
 use Rattle.tables.specs.Figures.{y0Of}
 use Rattle.tables.proofs.Ranges.{within-minutes}

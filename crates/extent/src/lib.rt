@@ -7,7 +7,7 @@ ghost use Prim.Native.Nat.{_≤_};
 ghost use lib.IntN.{natAbs};
 ghost use Rattle.entries.specs.Entries.{rowsOf, stepOf};
 ghost use Rattle.contents.specs.Contents.{Placed};
-ghost use Rattle.bodies.specs.Check.{checkOf, KnownToPass};
+ghost use Rattle.sheet_check.specs.Check.{checkOf, KnownToPass};
 ghost use Rattle.reading.specs.Tables.{withinRows};
 ghost use Rattle.tables.specs.Figures.{originOf};
 ghost use Rattle.extent.specs.Extent.{fromFirst, latitudeKnown, lOf, sizeKnown, longitudeKnown, xPrime, eastingKnown, scaleKnown, northingKnown, reducedKnown};
@@ -61,7 +61,7 @@ pub fn longitude_known(s: &[u8], p: Places, o: Origin, longitude: i32) -> bool
     requires { ⌜ KnownToPass (now s) p × (o ≡ originOf (now s)) ⌝ }
     ensures { λ r. ⌜ r ≡ longitudeKnown (now (s .entry)) longitude ⌝ }
 {
-    let size = figures::size(l_of(s, o, longitude));
+    let size = rounding::size(l_of(s, o, longitude));
     (0 <= longitude) & (longitude <= 648_000_000) & size_known(s, p, size as i64)
 }
 
@@ -78,7 +78,7 @@ pub fn easting_known(s: &[u8], p: Places, xp: i64) -> bool
     requires { ⌜ KnownToPass (now s) p × (natAbs xp ≤ 2_247_483_648) ⌝ }
     ensures { λ r. ⌜ r ≡ eastingKnown (now (s .entry)) xp ⌝ }
 {
-    within(s, p.easting, entries::EASTING, figures::size(xp) as i64)
+    within(s, p.easting, entries::EASTING, rounding::size(xp) as i64)
 }
 
 // Whether x′ in size is not above the last kind 6 row.
@@ -86,7 +86,7 @@ pub fn scale_known(s: &[u8], p: Places, xp: i64) -> bool
     requires { ⌜ KnownToPass (now s) p × (natAbs xp ≤ 2_247_483_648) ⌝ }
     ensures { λ r. ⌜ r ≡ scaleKnown (now (s .entry)) xp ⌝ }
 {
-    within(s, p.scale, entries::SCALE, figures::size(xp) as i64)
+    within(s, p.scale, entries::SCALE, rounding::size(xp) as i64)
 }
 
 // Whether y lies from 0 to the last kind 4 row.

@@ -2,20 +2,20 @@
 use mathlib.Core.Path.{_≡_, ap, _∙_}
 use mathlib.Core.Bool.{Bool, _||_}
 use mathlib.Core.List.{List}
-use Prim.Native.Nat.{ℕ, _*_, _-_, _≤_}
+use Prim.Native.Nat.{ℕ, _*_, _≤_}
 use native.Mathlib.Nat.{le-trans, mul-le-mul-right}
 use native.Mathlib.Omega.{arith}
 use lib.Dec.{T}
 use lib.IntN.{ℤ, pos, natAbs, _+ℤ_, _*ℤ_}
 use lib.Signed.{nonNeg}
-use Rattle.figures.specs.Nearest.{withSign}
-use Rattle.figures.specs.Ranges.{mostH, mostV, mostA, mostS}
+use Rattle.rounding.specs.Nearest.{withSign}
+use Rattle.rounding.specs.Ranges.{mostH, mostV, mostA, mostS}
 use Rattle.steps.specs.Steps.{qOf, qHalf, sizeOfX, sizeOfXHalf, rise, riseHalf}
-use Rattle.figures.proofs.Sizes.{Size, size-from, sum-nonNeg, size-product, size-withSign, sum-most, product-most}
+use Rattle.rounding.proofs.Sizes.{Size, size-from, sum-nonNeg, size-product, size-withSign, sum-most, product-most}
 use Rattle.steps.proofs.StepBounds.{q-most, x-size-most, rise-most}
 use Rattle.entries.specs.Layout.{latitude, longitude}
 use Rattle.entries.specs.Entries.{Within}
-use Rattle.bodies.specs.Check.{checkOf}
+use Rattle.sheet_check.specs.Check.{checkOf}
 use Rattle.tables.specs.Figures.{falseEasting, y0At, y0Half, hAt, hHalf, vAt, vHalf, aAt, aHalf, bAt, bHalf, cAt, cHalf}
 use Rattle.tables.proofs.Ranges.{easting-size, y0-between, h-between, h-least, v-between, a-most, b-between, b-slope, c-between}
 use Rattle.extent.proofs.Reach.{longitude-span}

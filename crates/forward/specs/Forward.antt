@@ -3,9 +3,9 @@ use mathlib.Core.Bool.{Bool, false, _||_}
 use mathlib.Core.List.{List}
 use Prim.Native.Nat.{ℕ}
 use lib.IntN.{ℤ, pos, natAbs, _+ℤ_}
-use Rattle.figures.specs.Nearest.{withSign}
+use Rattle.rounding.specs.Nearest.{withSign}
 use Rattle.steps.specs.Steps.{qOf, qHalf, sizeOfX, sizeOfXHalf, rise, riseHalf}
-use Rattle.words.specs.Ladder.{need}
+use Rattle.refusals.specs.Ladder.{need}
 use Rattle.tables.specs.Figures.{falseEasting, y0At, y0Half, hAt, hHalf, vAt, vHalf, aAt, aHalf, bAt, bHalf, cAt, cHalf}
 use Rattle.extent.specs.Extent.{fromFirst, latitudeKnown, lOf, longitudeKnown}
 use Rattle.forward.specs.declared.Plane.{Plane}

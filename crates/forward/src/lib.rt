@@ -1,6 +1,6 @@
 // Geographic to plane, on a sheet known to pass, with its places in hand: 10, 11, or x and y.
 use entries::Places;
-use figures::Rounded;
+use rounding::Rounded;
 use tables::Origin;
 ghost use mathlib.Core.Path.{_≡_};
 ghost use mathlib.Core.Bool.{true};
@@ -8,7 +8,7 @@ ghost use Prim.Native.Nat.{_≤_};
 ghost use lib.IntN.{natAbs};
 ghost use Rattle.entries.specs.Layout.{latitude, longitude};
 ghost use Rattle.entries.specs.Entries.{Within};
-ghost use Rattle.bodies.specs.Check.{KnownToPass};
+ghost use Rattle.sheet_check.specs.Check.{KnownToPass};
 ghost use Rattle.tables.specs.Figures.{originOf, bAt, bHalf, cAt, cHalf};
 ghost use Rattle.extent.specs.Extent.{latitudeKnown, longitudeKnown};
 ghost use Rattle.forward.specs.Forward.{xSize, xOf, xHalf, yOf, yHalf, planeAt, forwardOf};
@@ -40,8 +40,8 @@ fn x_of(s: &[u8], p: Places, o: Origin, t: u64, l: i64, b: Rounded) -> Rounded
     requires { ⌜ KnownToPass (now s) p × (o ≡ originOf (now s)) × Within (now s) latitude t × Within (now s) longitude (natAbs l) × (b .value ≡ bAt (now s) (natAbs l)) × (b .half ≡ bHalf (now s) (natAbs l)) ⌝ }
     ensures { λ r. ⌜ (r .value ≡ xOf (now (s .entry)) t l) × (natAbs (r .value) ≤ 161_204_000) × (r .half ≡ xHalf (now (s .entry)) t (natAbs l)) ⌝ }
 {
-    let size = x_size(s, p, t, figures::size(l), b);
-    let x = figures::with_sign(l, size.value);
+    let size = x_size(s, p, t, rounding::size(l), b);
+    let x = rounding::with_sign(l, size.value);
     Rounded {
         value: x + o.false_easting,
         half: size.half,
@@ -70,7 +70,7 @@ fn plane_at(s: &[u8], p: Places, o: Origin, latitude: i32, longitude: i32) -> Pl
 {
     let t = extent::from_first(s, o, latitude) as u64;
     let l = extent::l_of(s, o, longitude);
-    let size = figures::size(l);
+    let size = rounding::size(l);
     let read = tables::longitude_at(s, p, size);
     let x = x_of(s, p, o, t, l, read.b);
     let y = y_of(s, p, t, size, read.c);

@@ -12,17 +12,17 @@ use lib.IntN.{ℤ, pos, negsuc, natAbs, _-ℤ_}
 use lib.Signed.{leZ, ltZ, nonNeg}
 use mir.Syntax.{w64}
 use mir.Val.{Fits}
-use Rattle.figures.specs.Ranges.{mostGap}
+use Rattle.rounding.specs.Ranges.{mostGap}
 use Rattle.steps.specs.Steps.{seconds, secondsHalf}
-use Rattle.figures.proofs.Sizes.{Size, pos-minus, subℕ-le}
-use Rattle.figures.proofs.Rounding.{nearestSize-multiple, nearestSize-most}
-use Rattle.figures.proofs.Halves.{multiple-no-half}
-use Rattle.words.specs.Ladder.{whereBelow}
-use Rattle.words.proofs.Refusals.{where-below, where-beyond}
+use Rattle.rounding.proofs.Sizes.{Size, pos-minus, subℕ-le}
+use Rattle.rounding.proofs.Rounding.{nearestSize-multiple, nearestSize-most}
+use Rattle.rounding.proofs.Halves.{multiple-no-half}
+use Rattle.refusals.specs.Ladder.{whereBelow}
+use Rattle.refusals.proofs.Ladders.{where-below, where-beyond}
 use Rattle.rules.specs.Latitude.{leastRise}
 use Rattle.entries.specs.Layout.{latitude, oneMinute}
 use Rattle.entries.specs.Entries.{rowsOf, Within}
-use Rattle.bodies.specs.Check.{checkOf}
+use Rattle.sheet_check.specs.Check.{checkOf}
 use Rattle.row_search.specs.Rows.{RisesBy}
 use Rattle.row_search.proofs.LastRow.{last-below, last-not-above, later-above}
 use Rattle.tables.specs.Figures.{y0Of}

@@ -2,20 +2,20 @@
 use mathlib.Core.Path.{_≡_, _∙_}
 use mathlib.Core.Bool.{Bool, true, _||_}
 use mathlib.Core.List.{List}
-use Prim.Native.Nat.{ℕ, zero, suc, _*_, _-_, _≤_}
+use Prim.Native.Nat.{ℕ, zero, suc, _*_, _≤_}
 use native.Mathlib.Nat.{le-trans, mul-le-mul-left}
 use native.Mathlib.Omega.{arith}
 use lib.Dec.{T, lit≤}
 use lib.IntN.{ℤ, pos, negℤ, natAbs, _+ℤ_, _-ℤ_, _*ℤ_}
 use lib.Signed.{nonNeg}
-use Rattle.figures.specs.Ranges.{mostA, mostX}
+use Rattle.rounding.specs.Ranges.{mostA, mostX}
 use Rattle.steps.specs.Steps.{approximateL, approximateLHalf, sizeOfL, sizeOfLHalf, reduction, reductionHalf}
-use Rattle.figures.proofs.Sizes.{Size, size-from, sum-nonNeg, size-minus, size-product, product-most}
-use Rattle.figures.proofs.Rounding.{IsNearest, is-nearest}
+use Rattle.rounding.proofs.Sizes.{Size, size-from, sum-nonNeg, size-minus, size-product, product-most}
+use Rattle.rounding.proofs.Rounding.{IsNearest, is-nearest}
 use Rattle.steps.proofs.StepBounds.{reduction-most, approximate-most, l-size-most}
 use Rattle.entries.specs.Layout.{latitude, northing, easting}
 use Rattle.entries.specs.Entries.{Within}
-use Rattle.bodies.specs.Check.{checkOf}
+use Rattle.sheet_check.specs.Check.{checkOf}
 use Rattle.tables.specs.Figures.{firstLatitude, hAt, hHalf, aAt, aHalf, bAt, bHalf, pAt, pHalf, dAt, dHalf}
 use Rattle.tables.proofs.Ranges.{h-least, a-most, b-between, b-slope, p-between, d-between}
 use Rattle.extent.specs.Extent.{sizeKnown}

@@ -3,9 +3,9 @@ use mathlib.Core.Bool.{Bool, false, _||_}
 use mathlib.Core.List.{List}
 use Prim.Native.Nat.{ℕ, _+_, _*_}
 use lib.IntN.{ℤ, pos, natAbs, _+ℤ_, _-ℤ_}
-use Rattle.figures.specs.Nearest.{withSign}
+use Rattle.rounding.specs.Nearest.{withSign}
 use Rattle.steps.specs.Steps.{reduction, reductionHalf, seconds, secondsHalf, approximateL, approximateLHalf, sizeOfL, sizeOfLHalf}
-use Rattle.words.specs.Ladder.{need, whereBelow}
+use Rattle.refusals.specs.Ladder.{need, whereBelow}
 use Rattle.entries.specs.Layout.{latitude, oneMinute}
 use Rattle.entries.specs.Entries.{rowsOf}
 use Rattle.row_search.specs.Rows.{lastNotAbove}

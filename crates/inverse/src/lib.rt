@@ -1,7 +1,7 @@
 // Plane to geographic, on a sheet known to pass, with its places in hand: 12, 13, 14, 11, or latitude and longitude.
 use entries::Places;
-use figures::Rounded;
-use figures::RoundedSize;
+use rounding::Rounded;
+use rounding::RoundedSize;
 use tables::At;
 use tables::Origin;
 ghost use mathlib.Core.Path.{_≡_};
@@ -9,10 +9,10 @@ ghost use mathlib.Core.Bool.{true};
 ghost use Prim.Native.Nat.{_+_, _-_, _*_, _^_, _<_, _≤_, min};
 ghost use lib.IntN.{pos, natAbs, _-ℤ_};
 ghost use lib.Signed.{leZ};
-ghost use Rattle.figures.specs.Ranges.{mostGap};
+ghost use Rattle.rounding.specs.Ranges.{mostGap};
 ghost use Rattle.entries.specs.Layout.{latitude, easting, oneMinute};
 ghost use Rattle.entries.specs.Entries.{rowsOf, Within};
-ghost use Rattle.bodies.specs.Check.{checkOf, KnownToPass};
+ghost use Rattle.sheet_check.specs.Check.{checkOf, KnownToPass};
 ghost use Rattle.steps.specs.Steps.{approximateLHalf};
 ghost use Rattle.tables.specs.Figures.{originOf, hAt};
 ghost use Rattle.extent.specs.Extent.{sizeKnown, eastingKnown, northingKnown, reducedKnown};
@@ -94,7 +94,7 @@ fn geographic_at(s: &[u8], o: Origin, xp: i64, at: At, size: Rounded, met: bool)
     Geographic {
         number: 0,
         latitude: (o.first_latitude + (t as i64)) as i32,
-        longitude: (o.central_meridian - figures::with_sign(xp, size.value)) as i32,
+        longitude: (o.central_meridian - rounding::with_sign(xp, size.value)) as i32,
         half: met | size.half,
     }
 }
@@ -104,7 +104,7 @@ fn from_distance(s: &[u8], p: Places, o: Origin, xp: i64, at: At, met: bool) -> 
     requires { ⌜ KnownToPass (now s) p × (o ≡ originOf (now s)) × (eastingKnown (now s) xp ≡ true) × (at .row + 1 < rowsOf (now s) latitude) × (at .past ≤ oneMinute) ⌝ }
     ensures { λ r. ⌜ r ≡ fromDistance (now (s .entry)) xp (at .row * oneMinute + at .past) met ⌝ }
 {
-    let x = figures::size(xp);
+    let x = rounding::size(xp);
     let approximate = approximate_of(s, p, x, at);
     if !extent::size_known(s, p, approximate.value as i64) {
         return Geographic {
@@ -171,6 +171,6 @@ pub fn inverse(s: &[u8], p: Places, x: i32, y: i32) -> Geographic
             half: false,
         };
     }
-    let reduced = reduced_northing(s, p, figures::size(xp), y);
+    let reduced = reduced_northing(s, p, rounding::size(xp), y);
     from_reduced(s, p, o, xp, reduced.value, reduced.half)
 }

@@ -3,10 +3,10 @@ use mathlib.Core.Path.{_≡_, sym, _∙_}
 use mathlib.Core.Bool.{Bool, true}
 use mathlib.Core.List.{List}
 use Prim.Native.Nat.{ℕ, _+_, _-_, _<_, _≤_}
-use Rattle.words.proofs.Refusals.{where-below, where-beyond}
+use Rattle.refusals.proofs.Ladders.{where-below, where-beyond}
 use Rattle.rules.specs.declared.Figures.{Figures}
 use Rattle.rules.specs.Latitude.{withinBounds}
-use Rattle.rows.specs.Rows.{figuresAt}
+use Rattle.latitude_rows.specs.Rows.{figuresAt}
 use Rattle.judge.specs.Judge.{boundBefore, boundAfter}
 
 module _ (b : List ℕ) (r : ℕ) (f : Figures) where

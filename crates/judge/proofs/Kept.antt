@@ -5,10 +5,11 @@ use mathlib.Core.List.{List}
 use Prim.Native.Nat.{ℕ}
 use native.Mathlib.Omega.{arith}
 use lib.IntN.{ℤ}
-use Rattle.words.proofs.Refusals.{rung, past}
+use Rattle.refusals.proofs.Ladders.{rung, past}
 use Rattle.rules.specs.declared.Figures.{Figures}
 use Rattle.rules.specs.Latitude.{figuresInRange}
-use Rattle.judge.specs.Judge.{namedRow, hasRow, boundBefore, boundAfter, judgedBy}
+use Rattle.minute_row.specs.MinuteRow.{namedRow, hasRow}
+use Rattle.judge.specs.Judge.{boundBefore, boundAfter, judgedBy}
 
 module _ (b : List ℕ) (n : ℕ) (minute : ℤ) (f : Figures) where
   -- a correction that keeps every rule

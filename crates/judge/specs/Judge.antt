@@ -1,26 +1,14 @@
 -- The judging of a correction: "16, 6 for a new figure out of range, 8 for a bound broken with either neighbour". b is the sheet's latitude body, the part that holds its n rows;
 -- r is a row, counted from 0, and f the new figures. What it looks at: "the first latitude row's minute, the named row [..] and its neighbours".
-use mathlib.Core.Bool.{Bool, true, _&&_}
+use mathlib.Core.Bool.{Bool, true}
 use mathlib.Core.List.{List}
 use Prim.Native.Nat.{ℕ, _+_, _-_}
-use lib.IntN.{ℤ, pos, natAbs, _-ℤ_}
-use Rattle.words.specs.Ladder.{need, whereBelow}
+use lib.IntN.{ℤ}
+use Rattle.refusals.specs.Ladder.{need, whereBelow}
 use Rattle.rules.specs.declared.Figures.{Figures}
-use Rattle.rules.specs.Limits.{inRange, sameAs}
 use Rattle.rules.specs.Latitude.{figuresInRange, withinBounds}
-use Rattle.rows.specs.Rows.{figuresAt, rowAt}
-
--- ---- the named row: "the first row's minute fixes its place, and its own minute must agree"
-unfoldable pub fromFirstMinute : List ℕ → ℤ → ℤ
-fromFirstMinute b minute = minute -ℤ rowAt b 0 .minute
-
-abbrev pub namedRow : List ℕ → ℤ → ℕ
-namedRow b minute = natAbs (fromFirstMinute b minute)
-
--- Whether the place that the first row's minute gives is one of the body's, and its row has the minute: no exactly where 16 is due, "no row with the correction's minute".
--- On a sheet not checked before, a row in another place that has the minute does not count. The minute has no range of its own.
-unfoldable pub hasRow : List ℕ → ℕ → ℤ → Bool
-hasRow b n minute = inRange (pos 0) (fromFirstMinute b minute) (pos (n - 1)) && sameAs (rowAt b (namedRow b minute) .minute) minute
+use Rattle.latitude_rows.specs.Rows.{figuresAt}
+use Rattle.minute_row.specs.MinuteRow.{namedRow, hasRow}
 
 -- ---- "8 for a bound broken with either neighbour": with the row before, where there is one, and with the row after, where there is one
 unfoldable pub boundBefore : List ℕ → ℕ → Figures → Bool

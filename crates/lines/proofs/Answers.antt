@@ -3,17 +3,17 @@ use mathlib.Core.Path.{_≡_, refl}
 use mathlib.Core.List.{List}
 use Prim.Native.Nat.{ℕ}
 use lib.IntN.{ℤ}
-use Rattle.words.proofs.Refusals.{is, is-not}
-use Rattle.bodies.specs.Check.{checkOf}
+use Rattle.refusals.proofs.Ladders.{is, is-not}
+use Rattle.sheet_check.specs.Check.{checkOf}
 use Rattle.forward.specs.declared.Plane.{Plane}
 use Rattle.forward.specs.Forward.{forwardOf}
 use Rattle.inverse.specs.declared.Geographic.{Geographic}
 use Rattle.inverse.specs.Inverse.{inverseOf}
-use Rattle.grid.specs.declared.Grid.{Grid}
-use Rattle.grid.specs.Grid.{gridOf}
+use Rattle.convergence.specs.declared.Grid.{Grid}
+use Rattle.convergence.specs.Grid.{gridOf}
 use Rattle.convert.proofs.Checked.{forward-passes, inverse-passes, grid-passes}
-use Rattle.asked.specs.declared.Line.{Line}
-use Rattle.asked.specs.Asked.{lineOf}
+use Rattle.point_line.specs.declared.Line.{Line}
+use Rattle.point_line.specs.PointLine.{lineOf}
 use Rattle.lines.specs.declared.Values.{Values}
 use Rattle.lines.specs.Lines.{answerLine, unknownLine, noValues, planeValues, geographicValues, gridValues, valuesOf, textOf, answerText}
 

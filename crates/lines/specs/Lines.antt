@@ -2,14 +2,14 @@
 use Prim.Native.Nat.{ℕ}
 use mathlib.Core.List.{List, [], _∷_, _++_}
 use lib.IntN.{ℤ, pos}
-use Rattle.words.specs.Ladder.{whereIs}
+use Rattle.refusals.specs.Ladder.{whereIs}
 use Rattle.forward.specs.declared.Plane.{Plane}
 use Rattle.inverse.specs.declared.Geographic.{Geographic}
-use Rattle.grid.specs.declared.Grid.{Grid}
+use Rattle.convergence.specs.declared.Grid.{Grid}
 use Rattle.convert.specs.Conversions.{geographicToPlane, planeToGeographic, convergenceAndScale}
 use Rattle.decimal.specs.Writing.{sizeText, numberText}
-use Rattle.asked.specs.declared.Line.{Line}
-use Rattle.asked.specs.Asked.{lineOf}
+use Rattle.point_line.specs.declared.Line.{Line}
+use Rattle.point_line.specs.PointLine.{lineOf}
 use Rattle.lines.specs.declared.Values.{Values}
 
 -- ---- what is printed

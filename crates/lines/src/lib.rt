@@ -1,15 +1,15 @@
 // One line of the points program, answered as bytes.
-use asked::BLANK;
-use asked::FORWARD;
-use asked::INVERSE;
-use asked::Line;
-use asked::SCALE;
 use entries::Places;
+use point_line::BLANK;
+use point_line::CONVERGENCE;
+use point_line::FORWARD;
+use point_line::INVERSE;
+use point_line::Line;
 ghost use mathlib.Core.Path.{_≡_};
 ghost use Prim.Native.Nat.{_+_, _≤_};
 ghost use lib.IntN.{pos};
 ghost use lib.ListN.{length};
-ghost use Rattle.bodies.specs.Check.{KnownToPass};
+ghost use Rattle.sheet_check.specs.Check.{KnownToPass};
 ghost use Rattle.decimal.specs.Writing.{sizeText, numberText, Wrote};
 ghost use Rattle.lines.specs.Lines.{ended, answerLine, verdictLine, unknownLine, values, valuesOf, textOf, answerText, lineRoom};
 
@@ -123,8 +123,8 @@ pub fn values_of(s: &[u8], p: Places, l: Line) -> Values
             second: r.longitude,
         };
     }
-    if form == SCALE {
-        let r = grid::convergence(s, p, l.first, l.second);
+    if form == CONVERGENCE {
+        let r = convergence::convergence(s, p, l.first, l.second);
         return Values {
             number: r.number,
             first: r.convergence,
@@ -139,6 +139,6 @@ pub fn answer(s: &[u8], p: Places, line: &[u8], out: &mut [u8], at: usize) -> us
     requires { ⌜ KnownToPass (now s) p × (at + lineRoom ≤ length (now out)) ⌝ }
     ensures { λ r. ⌜ (r ≤ at + lineRoom) × Wrote (now (out .entry)) (now (out .exit)) at r (answerText (now (s .entry)) (now (line .entry))) ⌝ }
 {
-    let v = values_of(s, p, asked::line_of(line));
+    let v = values_of(s, p, point_line::line_of(line));
     put_values(out, at, v)
 }

@@ -6,7 +6,7 @@ use files::More;
 ghost use mathlib.Core.Path.{_≡_};
 ghost use Prim.Native.Nat.{_*_, _≤_, _<_};
 ghost use lib.ListN.{length};
-ghost use Rattle.bodies.specs.Check.{KnownToPass};
+ghost use Rattle.sheet_check.specs.Check.{KnownToPass};
 ghost use Rattle.lines.specs.Lines.{lineRoom};
 ghost use Rattle.stream.specs.Stream.{mostKept};
 ghost use Rattle.points.specs.Turn.{Turned};
@@ -69,7 +69,7 @@ fn answer_input(sheet: &[u8], p: Places, input: &mut [u8], from: usize, to: usiz
 fn run(sheet: &[u8], input: &mut [u8], from: usize, to: usize, out: &mut [u8])
     requires { ⌜ (from ≤ to) × (to ≤ length (now input)) × (mostKept < length (now input)) × (lineRoom * length (now input) ≤ length (now out)) ⌝ }
 {
-    let v = bodies::check(sheet);
+    let v = sheet_check::check(sheet);
     let number = v.number;
     let at = lines::put_verdict(out, 0, number, v.kind, v.row);
     if !files::tell(&out[0..at]) {

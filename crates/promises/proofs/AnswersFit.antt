@@ -3,33 +3,33 @@
 use mathlib.Core.Path.{_≡_, refl, sym, subst}
 use mathlib.Core.Bool.{Bool, true, false}
 use mathlib.Core.List.{List}
-use Prim.Native.Nat.{ℕ, zero, suc, _-_, _≤_}
+use Prim.Native.Nat.{ℕ, zero, suc}
 use native.Mathlib.Nat.{le-trans}
 use native.Mathlib.Omega.{arith}
 use lib.Dec.{lit≤}
 use lib.IntN.{ℤ, pos, natAbs, _+ℤ_}
-use Rattle.figures.proofs.Sizes.{sum-most, difference-most, size-withSign}
-use Rattle.figures.specs.Nearest.{withSign}
-use Rattle.figures.specs.Ranges.{mostS}
-use Rattle.words.specs.Ladder.{need}
+use Rattle.rounding.proofs.Sizes.{sum-most, difference-most, size-withSign}
+use Rattle.rounding.specs.Nearest.{withSign}
+use Rattle.rounding.specs.Ranges.{mostS}
+use Rattle.refusals.specs.Ladder.{need}
 use Rattle.entries.specs.Layout.{latitude, longitude, farthest}
 use Rattle.entries.specs.Entries.{Within}
-use Rattle.bodies.specs.Check.{checkOf}
+use Rattle.sheet_check.specs.Check.{checkOf}
 use Rattle.tables.specs.Figures.{centralMeridian, firstLatitude}
 use Rattle.tables.proofs.Ranges.{minutes-most, central-size, first-most, k-between}
 use Rattle.extent.specs.Extent.{fromFirst, latitudeKnown, lOf, longitudeKnown, sizeKnown, xPrime, eastingKnown, scaleKnown, northingKnown, reducedKnown}
 use Rattle.extent.proofs.Reach.{latitude-within, longitude-within, size-reach, scale-within, latitude-span, longitude-span}
 use Rattle.forward.specs.declared.Plane.{Plane}
 use Rattle.inverse.specs.declared.Geographic.{Geographic}
-use Rattle.grid.specs.declared.Grid.{Grid}
+use Rattle.convergence.specs.declared.Grid.{Grid}
 use Rattle.forward.specs.Forward.{noPlane, xOf, yOf, planeAt, planeFrom, forwardOf}
 use Rattle.inverse.specs.Inverse.{noGeographic, approximateOf, sizeOf, longitudeOf, distanceOf, reducedNorthing, geographicAt, fromDistance, fromReduced, inverseOf}
-use Rattle.grid.specs.Grid.{noGrid, gridAt, gridOf}
+use Rattle.convergence.specs.Grid.{noGrid, gridAt, gridOf}
 use Rattle.convert.specs.Conversions.{afterCheck, geographicToPlane, planeToGeographic, convergenceAndScale}
 use Rattle.convert.proofs.Checked.{after-pass, after-fault}
 use Rattle.forward.proofs.Eastings.{x-most, y-most}
 use Rattle.inverse.proofs.Distances.{distance-within}
-use Rattle.grid.proofs.Convergences.{convergence-small}
+use Rattle.convergence.proofs.Convergences.{convergence-small}
 use Rattle.promises.specs.Conversions.{Fits32}
 
 -- a promise of every answer holds of a ladder where it holds of each rung's answer

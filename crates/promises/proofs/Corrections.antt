@@ -13,30 +13,31 @@ use lib.ListN.{length, getD}
 use lib.Signed.{leZ, ltZ}
 use mir.Syntax.{w32}
 use mir.Val.{SFits}
-use Rattle.figures.proofs.Order.{above-of, not-above-of, not-below-of, ltZ-leZ, leZ-ltZ, leZ-shift}
+use Rattle.rounding.proofs.Order.{above-of, not-above-of, not-below-of, ltZ-leZ, leZ-ltZ, leZ-shift}
 use Rattle.words.specs.Words.{wordAt}
-use Rattle.words.specs.Ladder.{need, whereBelow}
-use Rattle.words.proofs.Refusals.{past, where-below, where-beyond, is, is-not}
+use Rattle.refusals.specs.Ladder.{need, whereBelow}
+use Rattle.refusals.proofs.Ladders.{past, where-below, where-beyond, is, is-not}
 use Rattle.rules.specs.Latitude.{mostRise}
 use Rattle.entries.specs.Layout.{latitude, widthOf, oneMinute}
 use Rattle.entries.specs.Entries.{startOf, rowsOf, bodyOf}
 use Rattle.contents.specs.Contents.{numberOf, contentsOf}
 use Rattle.rules.specs.declared.Figures.{Figures}
-use Rattle.rows.specs.Rows.{figuresAt}
-use Rattle.bodies.specs.Check.{checkOf}
+use Rattle.latitude_rows.specs.Rows.{figuresAt}
+use Rattle.sheet_check.specs.Check.{checkOf}
 use Rattle.tables.specs.Figures.{y0Of}
-use Rattle.bodies.proofs.Known.{contents-none}
+use Rattle.sheet_check.proofs.Known.{contents-none}
 use Rattle.row_search.specs.Rows.{RisesBy}
 use Rattle.tables.proofs.Ranges.{latitude-some, y0-rises}
 use Rattle.extent.specs.Extent.{latitudeKnown, longitudeKnown, xPrime, eastingKnown, northingKnown, reducedKnown}
 use Rattle.forward.specs.Forward.{forwardOf}
 use Rattle.inverse.specs.Inverse.{reducedNorthing, inverseOf}
-use Rattle.grid.specs.Grid.{gridOf}
+use Rattle.convergence.specs.Grid.{gridOf}
 use Rattle.convert.specs.Conversions.{geographicToPlane, planeToGeographic, convergenceAndScale}
 use Rattle.convert.proofs.Checked.{forward-passes, inverse-passes, grid-passes, after-pass}
-use Rattle.judge.specs.Judge.{fromFirstMinute, hasRow, judgedBy}
+use Rattle.minute_row.specs.MinuteRow.{fromFirstMinute, hasRow}
+use Rattle.judge.specs.Judge.{judgedBy}
 use Rattle.correct.specs.Correction.{correctionOf, correctedOf}
-use Rattle.judge.proofs.Place.{row-there}
+use Rattle.minute_row.proofs.Place.{row-there}
 use Rattle.correct.proofs.RowWords.{FiguresFit, figures-fit}
 use Rattle.correct.proofs.Rewritten.{minutes-stay, figures-stay, figures-new}
 use Rattle.judge.proofs.Kept.{Kept, zero-keeps, kept-zero}
@@ -57,7 +58,7 @@ use Rattle.corrected.proofs.OtherBytes.{other-bytes}
 use Rattle.corrected.proofs.WholeCheck.{passes-with, must-range, must-before, must-after}
 use Rattle.corrected.proofs.Beside.{Beside, latitude-rows, latitude-same, longitude-same, x-prime-same, easting-same, northing-same, y0-row-same}
 use Rattle.corrected.proofs.SameAnswers.{Apart, forward-same, inverse-same, grid-same, reduced-same}
-use Rattle.judge.proofs.Minutes.{each-named}
+use Rattle.minute_row.proofs.Minutes.{each-named}
 use Rattle.corrected.proofs.Minutes.{far-outside}
 
 -- ---- figures of 32 bits are words

@@ -10,13 +10,13 @@ use borrow.Author.Tests.{eq-eqb, eqb-true}
 use lib.Arith.{digits-mod}
 use lib.Dec.{lit<}
 use lib.IntN.{ℤ, pos, negsuc, negℤ, natAbs, _-ℤ_, _*ℤ_}
-use Rattle.figures.specs.Nearest.{nearest, onHalfSize, onHalf}
-use Rattle.figures.specs.Between.{exactBetween, betweenHalf}
-use Rattle.figures.proofs.Ring.{minus-times}
-use Rattle.figures.proofs.Sizes.{size-minus, size-product}
+use Rattle.rounding.specs.Nearest.{nearest, onHalfSize, onHalf}
+use Rattle.rounding.specs.Between.{exactBetween, betweenHalf}
+use Rattle.rounding.proofs.Ring.{minus-times}
+use Rattle.rounding.proofs.Sizes.{size-minus, size-product}
 use Rattle.steps.specs.Steps.{exactQ, exactX, exactRise, exactReduction, exactSeconds, exactApproximate, exactL, exactConvergence, qHalf, sizeOfXHalf, riseHalf, reductionHalf, secondsHalf, approximateLHalf, sizeOfLHalf, convergenceHalf}
 use Rattle.promises.specs.Meaning.{Halfway, AsNear, Marks}
-use Rattle.figures.proofs.Apart.{apart, far, mirrored}
+use Rattle.rounding.proofs.Apart.{apart, far, mirrored}
 use Rattle.promises.proofs.NearestIsNearest.{only-the-nearest}
 
 -- ---- sizes: n = q·d + d/2, so that 2n = (2q + 1)·d

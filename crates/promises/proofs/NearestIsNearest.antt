@@ -1,14 +1,14 @@
 -- `nearest` is what "nearest" means, and nothing else is. Assumes nothing.
 use mathlib.Core.Path.{_≡_, sym, ap, _∙_}
-use Prim.Native.Nat.{ℕ, suc, _+_, _*_, _-_, _<_, _≤_}
+use Prim.Native.Nat.{ℕ, suc, _+_, _*_, _<_}
 use native.Mathlib.Nat.{add-mul}
 use native.Mathlib.Decide.{decLt}
 use native.Mathlib.Omega.{arith}
-use lib.IntN.{ℤ, pos, negsuc, negℤ, natAbs, _-ℤ_, _*ℤ_, negℤ-negℤ}
-use Rattle.figures.specs.Nearest.{withSign, nearestSize, nearest}
-use Rattle.figures.proofs.Sizes.{size-minus}
-use Rattle.figures.proofs.Rounding.{is-nearest, only-nearest}
-use Rattle.figures.proofs.Apart.{apart, far, mirrored}
+use lib.IntN.{ℤ, pos, negsuc, negℤ, natAbs, _-ℤ_, negℤ-negℤ}
+use Rattle.rounding.specs.Nearest.{withSign, nearestSize, nearest}
+use Rattle.rounding.proofs.Sizes.{size-minus}
+use Rattle.rounding.proofs.Rounding.{is-nearest, only-nearest}
+use Rattle.rounding.proofs.Apart.{apart, far, mirrored}
 use Rattle.promises.specs.Meaning.{Nearest}
 
 -- ---- both signs alike

@@ -14,8 +14,8 @@ use denote.Ref.{now}
 use denote.Triple.Clauses.{AtExit}
 use denote.Triple.Entry.{Args, Res}
 use borrow.Fn.Kinds.{Dens, resT, endedOf}
-use Rattle.bodies.proofs.check.Kinds as check-kinds
-use Rattle.bodies.proofs.check.Reads as check-reads
+use Rattle.sheet_check.proofs.check.Kinds as check-kinds
+use Rattle.sheet_check.proofs.check.Reads as check-reads
 use Rattle.convert.proofs.geographic_to_plane.Kinds as forward-kinds
 use Rattle.convert.proofs.geographic_to_plane.Reads as forward-reads
 use Rattle.convert.proofs.plane_to_geographic.Kinds as inverse-kinds
@@ -44,8 +44,8 @@ use Rattle.lines.proofs.answer.Kinds as line-kinds
 use Rattle.lines.proofs.answer.Reads as line-reads
 use Rattle.compared.proofs.compare_line.Kinds as compared-kinds
 use Rattle.compared.proofs.compare_line.Reads as compared-reads
-use Rattle.asked.proofs.line_of.Kinds as asked-kinds
-use Rattle.asked.proofs.line_of.Reads as asked-reads
+use Rattle.point_line.proofs.line_of.Kinds as asked-kinds
+use Rattle.point_line.proofs.line_of.Reads as asked-reads
 use Rattle.decimal.proofs.byte_at.Kinds as byte-kinds
 use Rattle.decimal.proofs.byte_at.Reads as byte-reads
 use Rattle.decimal.proofs.number_at.Kinds as number-kinds
@@ -66,10 +66,10 @@ use Rattle.redone.proofs.compare_block.Kinds as redone-kinds
 use Rattle.redone.proofs.compare_block.Reads as redone-reads
 use Rattle.redone.proofs.compare_last.Kinds as counts-kinds
 use Rattle.redone.proofs.compare_last.Reads as counts-reads
-use Rattle.new_row.proofs.row_of.Kinds as row-kinds
-use Rattle.new_row.proofs.row_of.Reads as row-reads
-use Rattle.new_row.proofs.correct_by.Kinds as row-line-kinds
-use Rattle.new_row.proofs.correct_by.Reads as row-line-reads
+use Rattle.row_line.proofs.row_asked.Kinds as row-kinds
+use Rattle.row_line.proofs.row_asked.Reads as row-reads
+use Rattle.row_line.proofs.correct_by.Kinds as row-line-kinds
+use Rattle.row_line.proofs.correct_by.Reads as row-line-reads
 use Rattle.reader.specs.declared.Reader.{Reader}
 use Rattle.reader.proofs.new as new
 use Rattle.reader.proofs.moved as moved
@@ -79,7 +79,7 @@ use Rattle.reader.proofs.entry_at.Reads as at-reads
 use Rattle.reader.proofs.read_entry.Kinds as entry-kinds
 use Rattle.reader.proofs.read_entry.Reads as entry-reads
 
--- `bodies::check`
+-- `sheet_check::check`
 pub one-check : (κs : Lfts 1) (sheet : Dens κs check-kinds.ps) (r t : resT check-kinds.r κs .Denot) (x y : AtExit (endedOf 1 check-kinds.ps check-kinds.r) κs)
     → check-reads.Learnt κs sheet r x → check-reads.Learnt κs sheet t y → r ≡ t
 one-check κs sheet r t x y p q = p ∙ sym q
@@ -191,7 +191,7 @@ pub one-counts : (κs : Lfts 4) (given : Dens κs counts-kinds.ps) (r t : resT c
     → counts-reads.Learnt κs given r x → counts-reads.Learnt κs given t y → (r ≡ t) × (now (x .1 .1 .1 .1 .1 .1 .0) ≡ now (y .1 .1 .1 .1 .1 .1 .0))
 one-counts κs given r t x y p q = (rw (p .0 ∙ sym (q .0), p .2 ∙ sym (q .2), p .3 .place ∙ sym (q .3 .place)), p .3 .bytes ∙ sym (q .3 .bytes))
 
--- `asked::line_of`
+-- `point_line::line_of`
 pub one-asked : (κs : Lfts 1) (given : Dens κs asked-kinds.ps) (r t : resT asked-kinds.r κs .Denot) (x y : AtExit (endedOf 1 asked-kinds.ps asked-kinds.r) κs)
     → asked-reads.Learnt κs given r x → asked-reads.Learnt κs given t y → r ≡ t
 one-asked κs given r t x y p q = p ∙ sym q
@@ -216,12 +216,12 @@ pub one-last : (κs : Lfts 1) (given : Dens κs last-kinds.ps) (r t : resT last-
     → last-reads.Learnt κs given r x → last-reads.Learnt κs given t y → r ≡ t
 one-last κs given r t x y p q = p ∙ sym q
 
--- `new_row::row_of`
+-- `row_line::row_asked`
 pub one-row : (κs : Lfts 1) (given : Dens κs row-kinds.ps) (r t : resT row-kinds.r κs .Denot) (x y : AtExit (endedOf 1 row-kinds.ps row-kinds.r) κs)
     → row-reads.Learnt κs given r x → row-reads.Learnt κs given t y → r ≡ t
 one-row κs given r t x y p q = p ∙ sym q
 
--- `new_row::correct_by`: one number, and one content of the lent sheet
+-- `row_line::correct_by`: one number, and one content of the lent sheet
 pub one-row-line : (κs : Lfts 2) (given : Dens κs row-line-kinds.ps) (r t : resT row-line-kinds.r κs .Denot) (x y : AtExit (endedOf 2 row-line-kinds.ps row-line-kinds.r) κs)
     → row-line-reads.Learnt κs given r x → row-line-reads.Learnt κs given t y → (r ≡ t) × (now (x .0) ≡ now (y .0))
 one-row-line κs given r t x y p q = (p .0 ∙ sym (q .0), p .1 ∙ sym (q .1))

@@ -8,15 +8,15 @@ use native.Mathlib.Omega.{arith}
 use lib.IntN.{ℤ}
 use Rattle.words.specs.Words.{wordAt}
 use Rattle.words.specs.Parts.{partOf}
-use Rattle.words.proofs.Refusals.{is-not}
+use Rattle.refusals.proofs.Ladders.{is-not}
 use Rattle.words.proofs.PartWords.{wordAt-partOf}
 use Rattle.entries.specs.Layout.{latitude, widthOf}
 use Rattle.entries.specs.Entries.{startOf, rowsOf, bodyOf}
 use Rattle.contents.specs.Contents.{numberOf, contentsOf}
 use Rattle.rules.specs.declared.Figures.{Figures}
-use Rattle.rows.specs.Rows.{figuresAt, rowAt}
-use Rattle.bodies.specs.Check.{checkOf}
-use Rattle.bodies.proofs.Known.{contents-none}
+use Rattle.latitude_rows.specs.Rows.{figuresAt, rowAt}
+use Rattle.sheet_check.specs.Check.{checkOf}
+use Rattle.sheet_check.proofs.Known.{contents-none}
 use Rattle.correct.specs.Correction.{rewritten, correctionOf, correctedOf, withRow}
 use Rattle.correct.proofs.RowWords.{FiguresFit, figures-fit}
 use Rattle.correct.proofs.Rewritten.{figures-new}
@@ -25,7 +25,7 @@ use Rattle.judge.proofs.Kept.{Kept, zero-keeps, kept-zero}
 use Rattle.touched.specs.Touched.{hasMinute, rowNamed}
 use Rattle.corrected.proofs.WithRow.{length-stays, body-long, latitude-body}
 use Rattle.corrected.proofs.WholeCheck.{must-range, must-before, must-after}
-use Rattle.judge.proofs.Minutes.{each-named}
+use Rattle.minute_row.proofs.Minutes.{each-named}
 use Rattle.corrected.proofs.OnlyRow.{row-keeps, start-kept, body-kept, minute-kept, figures-range, only-row}
 use Rattle.corrected.proofs.StillBytes.{still-bytes}
 use Rattle.promises.specs.Corrections.{Passes, putIn}

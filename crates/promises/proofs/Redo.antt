@@ -5,21 +5,21 @@ use mathlib.Core.List.{List}
 use Prim.Native.Nat.{ℕ, _-_}
 use native.Mathlib.Decide.{ℕ-discrete}
 use lib.IntN.{ℤ, pos}
-use Rattle.figures.proofs.Tests.{never}
-use Rattle.words.specs.Ladder.{need, whereIs}
-use Rattle.words.proofs.Refusals.{is, is-not}
+use Rattle.rounding.proofs.Tests.{never}
+use Rattle.refusals.specs.Ladder.{need, whereIs}
+use Rattle.refusals.proofs.Ladders.{is, is-not}
 use Rattle.entries.specs.Layout.{latitude}
 use Rattle.entries.specs.Entries.{rowsOf, bodyOf}
 use Rattle.rules.specs.declared.Figures.{Figures}
-use Rattle.rules.specs.Limits.{sameAs, inRange}
-use Rattle.rules.proofs.Ranges.{same-true}
-use Rattle.rows.specs.Rows.{figuresAt}
-use Rattle.bodies.specs.Check.{checkOf}
+use Rattle.refusals.specs.Tests.{sameAs, inRange}
+use Rattle.refusals.proofs.Ranges.{same-true}
+use Rattle.latitude_rows.specs.Rows.{figuresAt}
+use Rattle.sheet_check.specs.Check.{checkOf}
 use Rattle.convert.specs.Conversions.{geographicToPlane, planeToGeographic, convergenceAndScale}
-use Rattle.judge.specs.Judge.{fromFirstMinute, namedRow, hasRow}
+use Rattle.minute_row.specs.MinuteRow.{fromFirstMinute, namedRow, hasRow}
 use Rattle.correct.specs.Correction.{correctionOf}
 use Rattle.touched.specs.Touched.{touch, hasMinute, rowNamed, geographicTouched, planeTouched}
-use Rattle.asked.specs.declared.Line.{Line}
+use Rattle.point_line.specs.declared.Line.{Line}
 use Rattle.lines.specs.Lines.{planeValues, geographicValues, valuesOf}
 use Rattle.corrected.proofs.Beside.{Beside}
 use Rattle.corrected.proofs.AllSame.{forward-all, inverse-all}

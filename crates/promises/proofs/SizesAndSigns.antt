@@ -8,10 +8,10 @@ use native.Mathlib.Omega.{arith}
 use lib.Dec.{T}
 use lib.IntN.{ℤ, pos, negsuc, negℤ, natAbs, _+ℤ_, _-ℤ_, _*ℤ_, negℤ-negℤ}
 use lib.Signed.{nonNeg}
-use Rattle.figures.specs.Nearest.{withSign, nearest}
+use Rattle.rounding.specs.Nearest.{withSign, nearest}
 use Rattle.steps.specs.Steps.{sizeOfX, sizeOfL}
-use Rattle.figures.proofs.Sizes.{Size, pos-minus, subℕ-le}
-use Rattle.bodies.specs.Check.{checkOf}
+use Rattle.rounding.proofs.Sizes.{Size, pos-minus, subℕ-le}
+use Rattle.sheet_check.specs.Check.{checkOf}
 use Rattle.tables.specs.Figures.{centralMeridian, hAt, aAt, bAt}
 use Rattle.tables.proofs.Ranges.{central-size}
 use Rattle.extent.specs.Extent.{fromFirst, latitudeKnown, lOf, longitudeKnown, sizeKnown, eastingKnown, reducedKnown}

@@ -8,18 +8,18 @@ use Prim.Native.Nat.{ℕ, _+_, _-_, _*_, _<_, _≤_}
 use lib.IntN.{ℤ, pos, negℤ, natAbs, _-ℤ_, _*ℤ_}
 use lib.ListN.{length, getD}
 use lib.Signed.{leZ}
-use Rattle.words.specs.Ladder.{need}
+use Rattle.refusals.specs.Ladder.{need}
 use Rattle.entries.specs.Layout.{latitude, widthOf, oneMinute}
 use Rattle.entries.specs.Entries.{startOf, rowsOf, bodyOf}
 use Rattle.contents.specs.Contents.{verdict}
 use Rattle.rules.specs.declared.Figures.{Figures}
-use Rattle.rows.specs.Rows.{figuresAt, rowAt}
-use Rattle.bodies.specs.Check.{checkOf}
+use Rattle.latitude_rows.specs.Rows.{figuresAt, rowAt}
+use Rattle.sheet_check.specs.Check.{checkOf}
 use Rattle.tables.specs.Figures.{y0Of}
 use Rattle.extent.specs.Extent.{xPrime, eastingKnown, northingKnown}
 use Rattle.forward.specs.Forward.{forwardOf}
 use Rattle.inverse.specs.Inverse.{reducedNorthing, inverseOf}
-use Rattle.grid.specs.Grid.{gridOf}
+use Rattle.convergence.specs.Grid.{gridOf}
 use Rattle.convert.specs.Conversions.{geographicToPlane, planeToGeographic, convergenceAndScale}
 use Rattle.correct.specs.Correction.{correctionOf, withRow, correctedOf}
 use Rattle.touched.specs.Touched.{touch, hasMinute, rowNamed, geographicTouched, planeTouched}

@@ -6,7 +6,7 @@ use Prim.Native.Nat.{ℕ}
 use lib.IntN.{ℤ}
 use Rattle.rules.specs.declared.Figures.{Figures}
 use Rattle.correct.specs.Correction.{correctionOf, correctedOf}
-use Rattle.asked.specs.declared.Line.{Line}
+use Rattle.point_line.specs.declared.Line.{Line}
 use Rattle.differing.specs.Differing.{differingRows}
 use Rattle.reached.specs.Reached.{reaches}
 use Rattle.compared.specs.Compared.{changes}

@@ -10,12 +10,12 @@ use lib.IntN.{ℤ, pos, natAbs}
 use mir.Syntax.{w32}
 use mir.Val.{toZ}
 use Rattle.entries.specs.Layout.{oneMinute}
-use Rattle.figures.proofs.Holds.{held-size}
-use Rattle.words.proofs.Refusals.{is, is-not}
-use Rattle.bodies.specs.Check.{checkOf}
+use Rattle.rounding.proofs.Holds.{held-size}
+use Rattle.refusals.proofs.Ladders.{is, is-not}
+use Rattle.sheet_check.specs.Check.{checkOf}
 use Rattle.touched.specs.declared.Touch.{Touch}
 use Rattle.touched.specs.Touched.{geographicTouched, planeTouched}
-use Rattle.asked.specs.declared.Line.{Line}
+use Rattle.point_line.specs.declared.Line.{Line}
 use Rattle.differing.specs.Differing.{differingRows, anyOf, isDiffering}
 use Rattle.differing.proofs.Among.{one-of-two}
 use Rattle.reached.specs.Reached.{touches, reaches, planeMinute, lowerMinute}

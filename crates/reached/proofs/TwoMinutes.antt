@@ -12,17 +12,17 @@ use borrow.Author.Tests.{ltb-true}
 use lib.Dec.{eqb, lit<}
 use lib.IntN.{ℤ, pos, natAbs, _+ℤ_, _-ℤ_, _*ℤ_, +ℤ-idr, -ℤ-+ℤ-cancel}
 use lib.Signed.{leZ, ltZ}
-use Rattle.figures.proofs.Sizes.{pos-minus, subℕ-le, subℕ-lt, size-product}
-use Rattle.figures.proofs.Bits.{both-same}
-use Rattle.figures.proofs.Tests.{both, never}
-use Rattle.figures.proofs.Order.{above-of, not-above-of, not-below-of, ltZ-le, ltZ-leZ, leZ-trans, heights-le}
-use Rattle.words.specs.Ladder.{need, whereIs}
-use Rattle.words.proofs.Refusals.{where-below}
+use Rattle.rounding.proofs.Sizes.{pos-minus, subℕ-le, subℕ-lt, size-product}
+use Rattle.rounding.proofs.Bits.{both-same}
+use Rattle.rounding.proofs.Tests.{both, never}
+use Rattle.rounding.proofs.Order.{above-of, not-above-of, not-below-of, ltZ-le, ltZ-leZ, leZ-trans, heights-le}
+use Rattle.refusals.specs.Ladder.{need, whereIs}
+use Rattle.refusals.proofs.Ladders.{where-below}
 use Rattle.rules.specs.Latitude.{leastRise, mostRise}
 use Rattle.entries.specs.Layout.{latitude, oneMinute}
 use Rattle.entries.specs.Entries.{rowsOf, bodyOf}
-use Rattle.rows.specs.Rows.{rowAt}
-use Rattle.bodies.specs.Check.{checkOf}
+use Rattle.latitude_rows.specs.Rows.{rowAt}
+use Rattle.sheet_check.specs.Check.{checkOf}
 use Rattle.convert.proofs.Checked.{after-pass}
 use Rattle.row_search.specs.Rows.{lastNotAbove, RisesBy, Rising}
 use Rattle.row_search.proofs.LastRow.{only-last}
@@ -32,10 +32,10 @@ use Rattle.tables.proofs.Ranges.{latitude-some, minute-size, y0-rises}
 use Rattle.extent.specs.Extent.{fromFirst, latitudeKnown, longitudeKnown, xPrime, eastingKnown, northingKnown}
 use Rattle.extent.proofs.Reach.{latitude-reach}
 use Rattle.inverse.specs.Inverse.{reducedNorthing, rowOf}
-use Rattle.judge.specs.Judge.{fromFirstMinute}
-use Rattle.judge.proofs.Place.{row-size, row-there}
+use Rattle.minute_row.specs.MinuteRow.{fromFirstMinute}
+use Rattle.minute_row.proofs.Place.{row-size, row-there}
 use Rattle.touched.specs.Touched.{touch, noTouch, hasMinute, rowNamed, nearRow, forwardTouched, abovePrior, belowNext, inverseTouched, geographicTouched, planeTouched}
-use Rattle.asked.specs.declared.Line.{Line}
+use Rattle.point_line.specs.declared.Line.{Line}
 use Rattle.reached.specs.Reached.{touches, firstMinute, planeMinute, lowerMinute}
 
 -- ---- of tests

@@ -3,13 +3,13 @@ use mathlib.Core.Bool.{Bool, false, _||_}
 use mathlib.Core.List.{List}
 use Prim.Native.Nat.{ℕ, _+_, _/_}
 use lib.IntN.{ℤ, natAbs}
-use Rattle.words.specs.Ladder.{need, whereIs}
+use Rattle.refusals.specs.Ladder.{need, whereIs}
 use Rattle.entries.specs.Layout.{oneMinute}
 use Rattle.tables.specs.Figures.{firstLatitude}
 use Rattle.extent.specs.Extent.{xPrime, eastingKnown, northingKnown}
 use Rattle.inverse.specs.Inverse.{reducedNorthing, rowOf}
 use Rattle.touched.specs.Touched.{geographicTouched, planeTouched}
-use Rattle.asked.specs.declared.Line.{Line}
+use Rattle.point_line.specs.declared.Line.{Line}
 use Rattle.differing.specs.Differing.{anyOf}
 
 -- A correction of the minute's row may change what the sheet answers: G by its latitude, P by its reduced northing. No latitude row moves convergence and scale, nor 18.

@@ -1,15 +1,15 @@
 // Whether some of the rows in which two sheets differ may touch a line of the points program. On each sheet two minutes alone are asked, however many rows differ.
-use asked::FORWARD;
-use asked::INVERSE;
-use asked::Line;
 use entries::Places;
+use point_line::FORWARD;
+use point_line::INVERSE;
+use point_line::Line;
 ghost use mathlib.Core.Path.{_≡_};
 ghost use mathlib.Core.Bool.{_&&_};
 ghost use Prim.Native.Nat.{_^_, _<_, _≤_};
 ghost use lib.IntN.{natAbs};
 ghost use Rattle.entries.specs.Layout.{latitude};
 ghost use Rattle.entries.specs.Entries.{rowsOf};
-ghost use Rattle.bodies.specs.Check.{KnownToPass};
+ghost use Rattle.sheet_check.specs.Check.{KnownToPass};
 ghost use Rattle.inverse.specs.Inverse.{rowOf};
 ghost use Rattle.differing.specs.Differing.{differingRows, anyOf};
 ghost use Rattle.reached.specs.Reached.{touches, reaches, firstMinute, planeMinute, lowerMinute};
@@ -24,7 +24,7 @@ fn row_below(s: &[u8], p: Places, z: i64) -> usize
     if z < tables::y0_of(s, p, 0) {
         return 0;
     }
-    tables::row_of(s, p, z)
+    tables::row_of_northing(s, p, z)
 }
 
 // The first row's minute.
@@ -32,7 +32,7 @@ fn first_minute(s: &[u8], p: Places) -> u64
     requires { ⌜ KnownToPass (now s) p ⌝ }
     ensures { λ r. ⌜ (r ≡ firstMinute (now (s .entry))) × (r ≤ 5_400) ⌝ }
 {
-    figures::size(tables::first_latitude(s, p)) / entries::ONE_MINUTE
+    rounding::size(tables::first_latitude(s, p)) / entries::ONE_MINUTE
 }
 
 // The lower of the minutes whose rows may touch a plane point.
@@ -48,7 +48,7 @@ fn plane_minute(s: &[u8], p: Places, x: i32, y: i32) -> u64
     if !extent::northing_known(s, p, y) {
         return 0;
     }
-    let z = inverse::reduced_northing(s, p, figures::size(xp), y).value;
+    let z = inverse::reduced_northing(s, p, rounding::size(xp), y).value;
     first_minute(s, p) + row_below(s, p, z) as u64
 }
 
@@ -59,7 +59,7 @@ fn lower_minute(s: &[u8], p: Places, l: Line) -> u64
 {
     let form = l.form;
     if form == FORWARD {
-        return figures::size(l.first as i64) / entries::ONE_MINUTE;
+        return rounding::size(l.first as i64) / entries::ONE_MINUTE;
     }
     if form == INVERSE {
         return plane_minute(s, p, l.first, l.second);

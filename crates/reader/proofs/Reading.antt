@@ -8,7 +8,7 @@ use lib.Dec.{ltb}
 use lib.ListN.{length}
 use borrow.Author.Tests.{le-leb, lt-leb, lt-ltb, le-ltb}
 use Rattle.words.specs.Words.{unsignedAt}
-use Rattle.words.specs.Ladder.{need}
+use Rattle.refusals.specs.Ladder.{need}
 use Rattle.entries.specs.declared.Form.{Form}
 use Rattle.entries.specs.Layout.{entryWords, firstEntry}
 use Rattle.entries.specs.Entries.{formOf}

@@ -4,7 +4,7 @@ use Prim.Native.Nat.{ℕ, _+_, _*_}
 use lib.Dec.{leb, ltb}
 use lib.ListN.{length}
 use Rattle.words.specs.Words.{unsignedAt}
-use Rattle.words.specs.Ladder.{need}
+use Rattle.refusals.specs.Ladder.{need}
 use Rattle.entries.specs.Layout.{entryWords, firstEntry}
 use Rattle.entries.specs.Entries.{kindAt, startAt, rowsAt, formOf}
 use Rattle.reader.specs.declared.Entry.{Entry}

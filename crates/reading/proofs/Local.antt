@@ -4,9 +4,9 @@ use Prim.Native.Nat.{ℕ, zero, suc, _+_, _*_, _-_, _/_, _%_, _<_, _≤_}
 use native.Mathlib.Nat.{suc-mul, div-add-mod', le-div-iff-mul-le}
 use native.Mathlib.Omega.{arith}
 use lib.IntN.{ℤ}
-use Rattle.figures.specs.Nearest.{nearest, onHalf}
-use Rattle.figures.specs.Between.{exactBetween, between, betweenHalf}
-use Rattle.figures.proofs.Interval.{exact-row}
+use Rattle.rounding.specs.Nearest.{nearest, onHalf}
+use Rattle.rounding.specs.Between.{exactBetween, between, betweenHalf}
+use Rattle.rounding.proofs.Interval.{exact-row}
 use Rattle.reading.specs.Tables.{pastRow, pastRowHalf, valueAt, valueHalf}
 use Rattle.reading.proofs.Pairs.{exactAt}
 

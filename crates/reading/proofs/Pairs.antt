@@ -11,12 +11,11 @@ use lib.Arith.{digits-div, digits-mod}
 use lib.IntN.{ℤ, pos}
 use lib.ListN.{length}
 use lib.Signed.{leZ}
-use Rattle.figures.specs.Nearest.{nearest, onHalf}
-use Rattle.figures.specs.Between.{exactBetween, between, betweenHalf}
-use Rattle.figures.proofs.Interval.{exact-row, exact-next}
+use Rattle.rounding.specs.Nearest.{nearest, onHalf}
+use Rattle.rounding.specs.Between.{exactBetween, between, betweenHalf}
+use Rattle.rounding.proofs.Interval.{exact-row, exact-next}
 use Rattle.words.specs.Words.{wordAt}
-use Rattle.reading.specs.Tables.{column, pastRow, pastRowHalf, valueAt, valueHalf}
-use Rattle.reading.specs.Tables.{NotNegative}
+use Rattle.reading.specs.Tables.{column, pastRow, pastRowHalf, valueAt, valueHalf, NotNegative}
 use Rattle.reading.proofs.Within.{next-within}
 
 -- the next row's word

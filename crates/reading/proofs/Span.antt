@@ -9,10 +9,10 @@ use lib.IntN.{ℤ, pos, negsuc, natAbs}
 use lib.Signed.{leZ, nonNeg}
 use mir.Syntax.{w64}
 use mir.Val.{Fits, SFits, toZ}
-use Rattle.figures.specs.Ranges.{mostCount, mostStep}
-use Rattle.figures.proofs.Sizes.{Size, product-most}
-use Rattle.figures.proofs.Tests.{both}
-use Rattle.figures.proofs.Holds.{held-size}
+use Rattle.rounding.specs.Ranges.{mostCount, mostStep}
+use Rattle.rounding.proofs.Sizes.{Size, product-most}
+use Rattle.rounding.proofs.Tests.{both}
+use Rattle.rounding.proofs.Holds.{held-size}
 use Rattle.reading.specs.Tables.{withinRows}
 
 module _ (rows step : ℕ) (h : rows ≤ mostCount) (l : step ≤ mostStep) where

@@ -8,9 +8,9 @@ use native.Mathlib.Omega.{arith}
 use lib.Dec.{T}
 use lib.IntN.{pos}
 use lib.Signed.{leZ}
-use Rattle.figures.specs.Nearest.{nearestSize, onHalfSize}
-use Rattle.figures.specs.Ranges.{mostRow}
-use Rattle.figures.proofs.Interval.{between-sizes, half-sizes}
+use Rattle.rounding.specs.Nearest.{nearestSize, onHalfSize}
+use Rattle.rounding.specs.Ranges.{mostRow}
+use Rattle.rounding.proofs.Interval.{between-sizes, half-sizes}
 use Rattle.words.specs.Words.{unsignedAt, signed32, wordAt}
 use Rattle.words.proofs.TwosComplement.{signed32-low, signed32-below}
 use Rattle.reading.specs.Tables.{column, pastRow, pastRowHalf}

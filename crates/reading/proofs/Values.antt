@@ -4,11 +4,11 @@ use Prim.Native.Nat.{ℕ, zero, suc, _+_, _*_, _-_, _/_, _%_, _<_, _≤_}
 use native.Mathlib.Nat.{le-trans, le-of-lt, mod-lt, mul-le-mul-right, mul-comm, mul-assoc, mul-add, add-mul, div-add-mod'}
 use native.Mathlib.Omega.{arith}
 use lib.IntN.{ℤ, pos, natAbs}
-use Rattle.figures.specs.Nearest.{nearestSize}
-use Rattle.figures.specs.Between.{between}
-use Rattle.figures.proofs.Sizes.{Size}
-use Rattle.figures.proofs.Rounding.{nearestSize-most}
-use Rattle.figures.proofs.Interval.{at-row, between-most, between-sizes, sizes-most, sizes-least, size-between}
+use Rattle.rounding.specs.Nearest.{nearestSize}
+use Rattle.rounding.specs.Between.{between}
+use Rattle.rounding.proofs.Sizes.{Size}
+use Rattle.rounding.proofs.Rounding.{nearestSize-most}
+use Rattle.rounding.proofs.Interval.{at-row, between-most, between-sizes, sizes-most, sizes-least, size-between}
 use Rattle.reading.specs.Tables.{pastRow, valueAt}
 use Rattle.reading.proofs.Within.{this-there, next-there}
 

@@ -5,7 +5,7 @@ use mathlib.Core.List.{List}
 use Prim.Native.Nat.{ℕ, _+_, _-_, _*_, _/_, _%_, _<_}
 use lib.IntN.{ℤ, pos}
 use lib.Signed.{leZ}
-use Rattle.figures.specs.Between.{between, betweenHalf}
+use Rattle.rounding.specs.Between.{between, betweenHalf}
 use Rattle.words.specs.Words.{wordAt}
 
 -- The figure in row i of a column: `width` is the words in a row, `number` the column's number. Rows and columns count from 0.

@@ -1,13 +1,13 @@
 // Reading tables: a column's value at an offset, and whether it was rounded from a half.
-use figures::Rounded;
-use figures::RoundedSize;
+use rounding::Rounded;
+use rounding::RoundedSize;
 ghost use mathlib.Core.Path.{_≡_};
 ghost use mathlib.Core.Bool.{true};
 ghost use Prim.Native.Nat.{_+_, _-_, _*_, _<_, _≤_, min};
 ghost use lib.ListN.{length};
 ghost use lib.IntN.{pos};
 ghost use lib.Signed.{leZ};
-ghost use Rattle.figures.specs.Ranges.{mostCount, mostStep};
+ghost use Rattle.rounding.specs.Ranges.{mostCount, mostStep};
 ghost use Rattle.reading.specs.Tables.{column, pastRow, pastRowHalf, valueAt, valueHalf, withinRows, NotNegative};
 
 // The value of column c at t past row i, for a body of w words in a row. There is a next row, and t is up to the step.
@@ -16,7 +16,7 @@ pub fn past_row(b: &[u8], w: usize, c: usize, i: usize, t: u32, step: u32) -> Ro
     ensures { λ r. ⌜ (r .value ≡ pastRow (column (now (b .entry)) w c) i t step) × (r .half ≡ pastRowHalf (column (now (b .entry)) w c) i t step) ⌝ }
 {
     let at = w * i + c;
-    figures::between(
+    rounding::between(
         words::raised_word(b, at),
         words::raised_word(b, at + w),
         t,
@@ -34,7 +34,7 @@ pub fn size_past_row(b: &[u8], w: usize, c: usize, i: usize, t: u32, step: u32) 
     let next = words::unsigned_word(b, at + w) as u64;
     let weight = (step - t) as u64;
     let next_weight = t as u64;
-    figures::nearest_size(u * weight + next * next_weight, step as u64)
+    rounding::nearest_size(u * weight + next * next_weight, step as u64)
 }
 
 // 1 where k is beyond the last, and else 0.

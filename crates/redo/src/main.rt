@@ -9,7 +9,7 @@ use redone::Tally;
 ghost use mathlib.Core.Path.{_≡_};
 ghost use Prim.Native.Nat.{_*_, _≤_, _<_};
 ghost use lib.ListN.{length};
-ghost use Rattle.bodies.specs.Check.{checkOf, KnownToPass};
+ghost use Rattle.sheet_check.specs.Check.{checkOf, KnownToPass};
 ghost use Rattle.compared.specs.Compared.{changeRoom};
 ghost use Rattle.stream.specs.Stream.{mostKept};
 ghost use Rattle.redo.specs.Turn.{Turned};
@@ -139,10 +139,10 @@ fn compare(old: &[u8], new: &[u8], input: &mut [u8], from: usize, to: usize, out
 fn run(old: &[u8], new: &[u8], input: &mut [u8], from: usize, to: usize, out: &mut [u8])
     requires { ⌜ (from ≤ to) × (to ≤ length (now input)) × (mostKept < length (now input)) × (changeRoom * length (now input) ≤ length (now out)) ⌝ }
 {
-    let v = bodies::check(old);
+    let v = sheet_check::check(old);
     let number = v.number;
     let i = lines::put_verdict(out, 0, number, v.kind, v.row);
-    let w = bodies::check(new);
+    let w = sheet_check::check(new);
     let other = w.number;
     let at = lines::put_verdict(out, i, other, w.kind, w.row);
     if !files::tell(&out[0..at]) {

@@ -5,10 +5,10 @@ use mathlib.Core.List.{List, [], _∷_, _++_, append-nil}
 use Prim.Native.Nat.{ℕ, _-_, _≤_}
 use lib.ListN.{length, take, drop}
 use lib.Seq.{slice, length-take-le}
-use Rattle.words.proofs.Refusals.{is, is-not}
+use Rattle.refusals.proofs.Ladders.{is, is-not}
 use Rattle.decimal.specs.Writing.{Wrote}
 use Rattle.decimal.proofs.Spelling.{then}
-use Rattle.asked.specs.Asked.{isForm, lineOf}
+use Rattle.point_line.specs.PointLine.{isForm, lineOf}
 use Rattle.differing.specs.Differing.{differingRows}
 use Rattle.reached.specs.Reached.{reaches}
 use Rattle.compared.specs.Compared.{changes, comparedText}

@@ -3,14 +3,13 @@ use mathlib.Core.Path.{_≡_, refl, sym, ap, _∙_}
 use mathlib.Core.List.{List, [], _∷_, _++_, append-assoc}
 use Prim.Native.Nat.{ℕ}
 use lib.ListN.{take}
-use Rattle.asked.specs.Asked.{lineOf}
 use Rattle.stream.specs.Stream.{linesOf, mostKept}
-use Rattle.stream.specs.Pieces.{Way, answers, after, written, inPieces, ByFront, joined}
+use Rattle.stream.specs.Pieces.{answers, after, written, inPieces, ByFront, joined}
 use Rattle.stream.proofs.Joining.{in-pieces}
 use Rattle.blocks.specs.Printed.{sheetNamed, checkText, wherePasses}
 use Rattle.blocks.proofs.Printing.{line-front, name-front, passes-more, passes-none}
 use Rattle.redone.specs.declared.Tally.{Tally}
-use Rattle.redone.specs.Tallied.{tallied, noTally, countsText}
+use Rattle.redone.specs.Tallied.{noTally, countsText}
 use Rattle.redone.specs.Redone.{comparing}
 use Rattle.redone.specs.Printed.{firstOf, restOf, printedOn, printedTo, printed, Stage, unnamed, one, both, lineAnswer, lineStage, closing, redo}
 

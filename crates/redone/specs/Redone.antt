@@ -6,7 +6,7 @@ use mathlib.Core.List.{List, _++_}
 use lib.ListN.{length, drop}
 use lib.Seq.{slice}
 use Rattle.decimal.specs.Writing.{Wrote}
-use Rattle.asked.specs.Asked.{lineOf}
+use Rattle.point_line.specs.PointLine.{lineOf}
 use Rattle.stream.specs.Stream.{endedLines, keptOf, mostKept}
 use Rattle.stream.specs.Pieces.{Way, answers, after}
 use Rattle.compared.specs.Compared.{comparedText}

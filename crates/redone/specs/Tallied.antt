@@ -2,10 +2,10 @@
 use Prim.Native.Nat.{ℕ, _+_}
 use mathlib.Core.Bool.{Bool, cond}
 use mathlib.Core.List.{List, _++_}
-use Rattle.words.specs.Ladder.{whereIs}
+use Rattle.refusals.specs.Ladder.{whereIs}
 use Rattle.decimal.specs.Writing.{sizeText}
-use Rattle.asked.specs.declared.Line.{Line}
-use Rattle.asked.specs.Asked.{isForm}
+use Rattle.point_line.specs.declared.Line.{Line}
+use Rattle.point_line.specs.PointLine.{isForm}
 use Rattle.lines.specs.Lines.{ended}
 use Rattle.differing.specs.Differing.{differingRows}
 use Rattle.reached.specs.Reached.{reaches}

@@ -1,13 +1,13 @@
 // The lines of the redo program's input, compared on two sheets and counted as they come.
-use asked::BLANK;
 use compared::BothPlaces;
+use point_line::BLANK;
 ghost use mathlib.Core.Path.{_≡_};
 ghost use Prim.Native.Nat.{_+_, _*_, _≤_};
 ghost use lib.ListN.{length, take};
 ghost use lib.Seq.{slice};
-ghost use Rattle.bodies.specs.Check.{KnownToPass};
+ghost use Rattle.sheet_check.specs.Check.{KnownToPass};
 ghost use Rattle.decimal.specs.Writing.{Wrote};
-ghost use Rattle.asked.specs.Asked.{lineOf};
+ghost use Rattle.point_line.specs.PointLine.{lineOf};
 ghost use Rattle.compared.specs.Compared.{comparedText, changeRoom};
 ghost use Rattle.stream.specs.Stream.{lastLine, endedLines, unended};
 ghost use Rattle.stream.specs.Pieces.{answers, after, written};

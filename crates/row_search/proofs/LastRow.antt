@@ -9,7 +9,7 @@ use native.Mathlib.Omega.{arith}
 use lib.IntN.{ℤ}
 use lib.Signed.{leZ, ltZ}
 use Rattle.row_search.specs.Rows.{lastNotAbove, Rising}
-use Rattle.figures.proofs.Order.{above-of, not-above-of, leZ-trans, ltZ-trans, ltZ-le}
+use Rattle.rounding.proofs.Order.{above-of, not-above-of, leZ-trans, ltZ-trans, ltZ-le}
 
 module _ (f : ℕ → ℤ) (z : ℤ) where
   -- it is one of the n rows

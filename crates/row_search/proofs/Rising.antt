@@ -8,7 +8,7 @@ use native.Mathlib.Omega.{arith}
 use lib.IntN.{ℤ, pos, _+ℤ_, +ℤ-idr, +ℤ-assoc}
 use lib.Signed.{leZ}
 use Rattle.row_search.specs.Rows.{RisesBy, Rising}
-use Rattle.figures.proofs.Order.{leZ-refl, leZ-trans, ltZ-leZ, leZ-shift, below-height}
+use Rattle.rounding.proofs.Order.{leZ-refl, leZ-trans, ltZ-leZ, leZ-shift, below-height}
 
 -- (a + i·k) + k is a + (i + 1)·k
 one-more : (a : ℤ) (i k : ℕ) → a +ℤ pos (suc i * k) ≡ (a +ℤ pos (i * k)) +ℤ pos k

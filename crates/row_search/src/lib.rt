@@ -57,7 +57,7 @@ fn up(b: &[u8], w: usize, c: usize, n: usize, from: usize, z: i64) -> usize
 
 // Of the n rows of a rising column, in which no figure is negative, the last whose figure is not above z. Row 0's is not.
 // The rise decides no answer: the nearer it is to the rows' own, the shorter is the way from the first look.
-pub fn row_of(b: &[u8], w: usize, c: usize, n: usize, rise: u64, z: i64) -> usize
+pub fn last_not_above(b: &[u8], w: usize, c: usize, n: usize, rise: u64, z: i64) -> usize
     requires { ⌜ (0 < n) × (4 * (w * n) ≤ length (now b)) × (c < w) × (0 < rise) × NotNegative (column (now b) w c) n × Rising (column (now b) w c) n × (leZ (column (now b) w c 0) z ≡ true) × (natAbs z < 2 ^ 62) ⌝ }
     ensures { λ r. ⌜ (r ≡ lastNotAbove (column (now (b .entry)) w c) n z) × (r < n) ⌝ }
 {

@@ -1,4 +1,3 @@
 -- Laws of the rules. Other crates cite them.
-pub mod Ranges
 pub mod WhatPasses
 pub mod Sixties

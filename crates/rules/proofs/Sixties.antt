@@ -1,15 +1,15 @@
 -- A difference over 60 seconds, tested without a division: 60·d lies within 30 of the scaled change exactly where d is the difference. Assumes nothing.
 use mathlib.Core.Path.{_≡_, refl, sym, ap, _∙_}
 use mathlib.Core.Bool.{Bool, true, false}
-use Prim.Native.Nat.{ℕ, suc, _%_, _≤_}
+use Prim.Native.Nat.{ℕ, _%_, _≤_}
 use native.Mathlib.Nat.{le-of-suc-le-suc}
 use borrow.Author.Tests.{le-leb}
 use lib.IntN.{ℤ, pos, negsuc, negℤ, natAbs, _-ℤ_, _*ℤ_}
-use Rattle.figures.proofs.Tests.{never}
+use Rattle.rounding.proofs.Tests.{never}
 use Rattle.steps.specs.Steps.{perSecond}
 use Rattle.steps.proofs.StepBounds.{per-second-near, per-second-within}
-use Rattle.rules.specs.Limits.{inRange, sameAs}
-use Rattle.rules.proofs.Ranges.{same-true, same-self}
+use Rattle.refusals.specs.Tests.{inRange, sameAs}
+use Rattle.refusals.proofs.Ranges.{same-true, same-self}
 use Rattle.rules.proofs.WhatPasses.{range-most}
 
 size-in-range : (z : ℤ) → natAbs z ≤ 30 → inRange (negℤ (pos 30)) z (pos 30) ≡ true

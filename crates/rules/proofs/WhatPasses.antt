@@ -9,14 +9,15 @@ use lib.Dec.{T, lit≤}
 use lib.IntN.{ℤ, pos, negsuc, negℤ, natAbs, _-ℤ_}
 use lib.Signed.{nonNeg}
 use borrow.Author.Tests.{leb-true}
-use Rattle.figures.specs.Ranges.{mostChange}
-use Rattle.figures.proofs.Sizes.{Size, within-size, pos-minus, subℕ-le, subℕ-lt}
+use Rattle.rounding.specs.Ranges.{mostChange}
+use Rattle.rounding.proofs.Sizes.{Size, within-size, pos-minus, subℕ-le, subℕ-lt}
 use Rattle.rules.specs.declared.Figures.{Figures}
 use Rattle.rules.specs.declared.Differences.{Differences}
-use Rattle.rules.specs.Limits.{inRange, rises}
+use Rattle.refusals.specs.Tests.{inRange}
+use Rattle.rules.specs.Limits.{rises}
 use Rattle.rules.specs.Latitude.{figuresInRange, leastRise, mostRise, withinBounds, sameDifferences}
-use Rattle.figures.proofs.Tests.{both}
-use Rattle.rules.proofs.Ranges.{range-true, same-true}
+use Rattle.rounding.proofs.Tests.{both}
+use Rattle.refusals.proofs.Ranges.{range-true, same-true}
 
 -- ---- one figure
 pub range-size : (least : ℕ) (x : ℤ) (most : ℕ) → inRange (pos least) x (pos most) ≡ true → Size least x most

@@ -5,7 +5,8 @@ use lib.IntN.{pos, negℤ, _-ℤ_}
 use Rattle.steps.specs.Steps.{perSecond}
 use Rattle.rules.specs.declared.Figures.{Figures}
 use Rattle.rules.specs.declared.Differences.{Differences}
-use Rattle.rules.specs.Limits.{inRange, rises, sameAs}
+use Rattle.refusals.specs.Tests.{inRange, sameAs}
+use Rattle.rules.specs.Limits.{rises}
 
 -- "y0 0 to 999,999,999; H 30,000,000 to 102,000,000; V 0 to 1,400,000; a −2,000 to 2,000"
 unfoldable pub figuresInRange : Figures → Bool

@@ -3,9 +3,10 @@ ghost use mathlib.Core.Path.{_≡_};
 ghost use mathlib.Core.Bool.{true};
 ghost use Prim.Native.Nat.{_%_, _≤_};
 ghost use lib.IntN.{natAbs, _-ℤ_};
-ghost use Rattle.figures.specs.Ranges.{mostScale, mostChange};
+ghost use Rattle.rounding.specs.Ranges.{mostScale, mostChange};
 ghost use Rattle.steps.specs.Steps.{perSecond};
-ghost use Rattle.rules.specs.Limits.{inRange, rises, sameAs};
+ghost use Rattle.refusals.specs.Tests.{sameAs};
+ghost use Rattle.rules.specs.Limits.{rises};
 ghost use Rattle.rules.specs.Latitude.{figuresInRange, withinBounds, differencesOf, noDifferences, sameDifferences};
 
 // The figures of a latitude row that a correction gives: y0 (0.01 ft), H (0.000001), V (0.000001), a (0.001).
@@ -28,13 +29,6 @@ pub const LEAST_RISE: i32 = 600_000;
 
 pub const MOST_RISE: i32 = 615_000;
 
-// Whether x is from least to most.
-pub fn in_range(least: i32, x: i32, most: i32) -> bool
-    ensures { λ r. ⌜ r ≡ inRange least x most ⌝ }
-{
-    (least <= x) & (x <= most)
-}
-
 // The rise from a row's figure x to the next row's. Both are raised first: sign-extended, a figure just read from the sheet would be put together byte by byte.
 fn rise(x: i32, next: i32) -> i64
     ensures { λ r. ⌜ r ≡ next -ℤ x ⌝ }
@@ -50,21 +44,14 @@ pub fn rises(x: i32, next: i32, least: i32, most: i32) -> bool
     ((least as i64) <= up) & (up <= (most as i64))
 }
 
-// Whether x is y.
-pub fn same_as(x: i32, y: i32) -> bool
-    ensures { λ r. ⌜ r ≡ sameAs x y ⌝ }
-{
-    x == y
-}
-
 // Whether a latitude row's figures are in their ranges.
 pub fn figures_in_range(f: Figures) -> bool
     ensures { λ r. ⌜ r ≡ figuresInRange f ⌝ }
 {
-    in_range(0, f.y0, 999_999_999)
-        & in_range(30_000_000, f.h, 102_000_000)
-        & in_range(0, f.v, 1_400_000)
-        & in_range(-2_000, f.a, 2_000)
+    refusals::in_range(0, f.y0, 999_999_999)
+        & refusals::in_range(30_000_000, f.h, 102_000_000)
+        & refusals::in_range(0, f.v, 1_400_000)
+        & refusals::in_range(-2_000, f.a, 2_000)
 }
 
 // Whether a latitude row's figures are within their bounds with the next row's.
@@ -127,5 +114,5 @@ pub fn no_differences() -> Differences
 pub fn same_differences(e: Differences, d: Differences) -> bool
     ensures { λ r. ⌜ r ≡ sameDifferences e d ⌝ }
 {
-    same_as(e.y, d.y) & same_as(e.h, d.h) & same_as(e.v, d.v)
+    refusals::same_as(e.y, d.y) & refusals::same_as(e.h, d.h) & refusals::same_as(e.v, d.v)
 }

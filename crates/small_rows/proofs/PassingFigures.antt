@@ -2,14 +2,14 @@
 use mathlib.Core.Path.{_≡_, sym, ap, _∙_}
 use mathlib.Core.Bool.{true}
 use mathlib.Core.List.{List}
-use Prim.Native.Nat.{ℕ, zero, suc, _+_, _*_, _-_, _<_, _≤_}
+use Prim.Native.Nat.{ℕ, zero, suc, _+_, _*_, _<_, _≤_}
 use native.Mathlib.Omega.{arith}
 use lib.IntN.{ℤ, pos, natAbs, _-ℤ_, -ℤ-+ℤ-cancel}
-use Rattle.figures.proofs.Sizes.{size-sum}
+use Rattle.rounding.proofs.Sizes.{size-sum}
 use Rattle.words.specs.Words.{wordAt}
-use Rattle.words.proofs.Refusals.{where-beyond}
+use Rattle.refusals.proofs.Ladders.{where-beyond}
 use Rattle.entries.specs.Layout.{longitude, widthOf}
-use Rattle.rules.specs.Limits.{inRange}
+use Rattle.refusals.specs.Tests.{inRange}
 use Rattle.rules.proofs.WhatPasses.{range-size, rises-most}
 use Rattle.small_rows.specs.SmallRows.{zeroFirst}
 use Rattle.small_rows.proofs.PassingRows.{LongitudeRow}

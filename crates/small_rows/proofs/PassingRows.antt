@@ -6,9 +6,10 @@ use Prim.Native.Nat.{ℕ, _+_, _*_, _<_}
 use native.Mathlib.Omega.{arith}
 use lib.IntN.{pos, negℤ}
 use Rattle.words.specs.Words.{wordAt}
-use Rattle.words.proofs.Refusals.{rung, where-below}
+use Rattle.refusals.proofs.Ladders.{rung, where-below}
 use Rattle.entries.specs.Layout.{zone, longitude, northing, easting, scale, widthOf}
-use Rattle.rules.specs.Limits.{inRange, rises}
+use Rattle.refusals.specs.Tests.{inRange}
+use Rattle.rules.specs.Limits.{rises}
 use Rattle.small_rows.specs.SmallRows.{zeroFirst, zoneFault, longitudeFault, northingFault, eastingFault, scaleFault}
 
 -- ---- kind 1

@@ -7,9 +7,10 @@ use mathlib.Core.List.{List}
 use Prim.Native.Nat.{ℕ, _+_, _*_}
 use lib.IntN.{ℤ, pos, negℤ}
 use Rattle.words.specs.Words.{wordAt}
-use Rattle.words.specs.Ladder.{need, whereBelow}
+use Rattle.refusals.specs.Ladder.{need, whereBelow}
 use Rattle.entries.specs.Layout.{zone, longitude, northing, easting, scale, widthOf}
-use Rattle.rules.specs.Limits.{inRange, rises}
+use Rattle.refusals.specs.Tests.{inRange}
+use Rattle.rules.specs.Limits.{rises}
 
 -- Whether the figure x may stand in row i: in row 0 only 0 may, in a later row any.
 unfoldable pub zeroFirst : ℤ → ℕ → Bool

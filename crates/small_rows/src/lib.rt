@@ -5,7 +5,8 @@ ghost use lib.IntN.{pos};
 ghost use lib.ListN.{length};
 ghost use Rattle.words.specs.Words.{wordAt};
 ghost use Rattle.entries.specs.Layout.{zone, longitude, northing, easting, scale, rowBytes};
-ghost use Rattle.rules.specs.Limits.{inRange, rises};
+ghost use Rattle.refusals.specs.Tests.{inRange};
+ghost use Rattle.rules.specs.Limits.{rises};
 ghost use Rattle.small_rows.specs.SmallRows.{zeroFirst, zoneFault, longitudeFault, northingFault, eastingFault, scaleFault};
 
 // Whether word at is from least to most.
@@ -13,7 +14,7 @@ fn word_in(b: &[u8], at: usize, least: i32, most: i32) -> bool
     requires { ⌜ 4 * at + 4 ≤ length (now b) ⌝ }
     ensures { λ r. ⌜ r ≡ inRange least (wordAt (now (b .entry)) at) most ⌝ }
 {
-    rules::in_range(least, words::word(b, at), most)
+    refusals::in_range(least, words::word(b, at), most)
 }
 
 // Whether word at, which may not be negative, is at most most: read without its sign, one below zero is above every limit.
@@ -31,7 +32,7 @@ fn zero_first(x: i32, i: usize) -> bool
     if 0 < i {
         return true;
     }
-    rules::in_range(0, x, 0)
+    refusals::in_range(0, x, 0)
 }
 
 // The number of the fault of a zone row.
@@ -55,10 +56,10 @@ pub fn longitude_row(b: &[u8], n: usize, i: usize) -> u32
 {
     let x = words::word(b, entries::LONGITUDE_WIDTH * i);
     let c = words::word(b, entries::LONGITUDE_WIDTH * i + 1);
-    if !rules::in_range(-20_000, x, 20_000) {
+    if !refusals::in_range(-20_000, x, 20_000) {
         return 6;
     }
-    if !rules::in_range(-2_000, c, 2_000) {
+    if !refusals::in_range(-2_000, c, 2_000) {
         return 6;
     }
     if !zero_first(x, i) {
@@ -96,7 +97,7 @@ pub fn easting_row(b: &[u8], i: usize) -> u32
     ensures { λ r. ⌜ r ≡ eastingFault (now (b .entry)) i ⌝ }
 {
     let d = words::word(b, entries::EASTING_WIDTH * i);
-    if !rules::in_range(-100, d, 100) {
+    if !refusals::in_range(-100, d, 100) {
         return 6;
     }
     if !zero_first(d, i) {

@@ -11,11 +11,11 @@ use lib.Dec.{T, eqb}
 use borrow.Author.Tests.{le-leb, eq-eqb, ne-eqb}
 use lib.IntN.{ℤ, pos, negsuc, negℤ, natAbs, _+ℤ_, _*ℤ_, +ℤ-one, negℤ-+ℤ, -ℤ-+ℤ-cancel}
 use lib.Signed.{leZ, nonNeg}
-use Rattle.figures.specs.Nearest.{withSign, nearestSize, nearest, onHalfSize, onHalf}
+use Rattle.rounding.specs.Nearest.{withSign, nearestSize, nearest, onHalfSize, onHalf}
 use Rattle.steps.specs.Wide.{towardZero}
-use Rattle.figures.proofs.Ring.{swap-last, sum-times, times-assoc}
-use Rattle.figures.proofs.Sizes.{size-minus}
-use Rattle.figures.proofs.Rounding.{IsNearest, is-nearest, only-nearest, nearest-minus}
+use Rattle.rounding.proofs.Ring.{swap-last, sum-times, times-assoc}
+use Rattle.rounding.proofs.Sizes.{size-minus}
+use Rattle.rounding.proofs.Rounding.{IsNearest, is-nearest, only-nearest, nearest-minus}
 
 -- ---- `towardZero`, as the tests of its code show it
 pub toward-up : (t : ℤ) (e : ℕ) → leZ (pos 0) t ≡ true → towardZero t e ≡ t

@@ -5,12 +5,12 @@ use native.Mathlib.Nat.{le-refl, le-trans, div-add-mod'}
 use native.Mathlib.Omega.{arith}
 use lib.Dec.{lit<, lit≤}
 use lib.IntN.{ℤ, pos, natAbs, _+ℤ_, _-ℤ_, _*ℤ_, *ℤ-comm}
-use Rattle.figures.specs.Ranges.{mostH, mostV, mostA, mostB, mostC, mostP, mostM, mostD, mostS, mostQ, mostX, mostWord, mostScale, mostChange}
+use Rattle.rounding.specs.Ranges.{mostH, mostV, mostA, mostB, mostC, mostP, mostM, mostD, mostS, mostQ, mostX, mostWord, mostScale, mostChange}
 use Rattle.steps.specs.Steps.{qOf, sizeOfX, rise, reduction, approximateL, sizeOfL, convergence, perSecond}
-use Rattle.figures.proofs.Sizes.{product-most, size-product, sum-most, difference-most, times-most}
-use Rattle.figures.proofs.Rounding.{nearestSize-most, nearestSize-le, size-nearest}
-use Rattle.figures.proofs.Ring.{times-assoc, difference-times}
-use Rattle.figures.proofs.Apart.{nearest-within, only-within}
+use Rattle.rounding.proofs.Sizes.{product-most, size-product, sum-most, difference-most, times-most}
+use Rattle.rounding.proofs.Rounding.{nearestSize-most, nearestSize-le, size-nearest}
+use Rattle.rounding.proofs.Ring.{times-assoc, difference-times}
+use Rattle.rounding.proofs.Apart.{nearest-within, only-within}
 
 -- q of any s within the kind 3 rows is one that `rise` takes
 pub q-most : (s : ℕ) → s ≤ mostS → qOf s ≤ mostQ

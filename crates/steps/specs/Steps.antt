@@ -4,7 +4,7 @@
 use mathlib.Core.Bool.{Bool}
 use Prim.Native.Nat.{ℕ, _*_}
 use lib.IntN.{ℤ, pos, _+ℤ_, _-ℤ_, _*ℤ_}
-use Rattle.figures.specs.Nearest.{nearestSize, nearest, onHalfSize, onHalf}
+use Rattle.rounding.specs.Nearest.{nearestSize, nearest, onHalfSize, onHalf}
 
 -- ---- geographic to plane
 

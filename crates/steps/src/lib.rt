@@ -1,12 +1,12 @@
 // The Survey's printed steps, each one function over whole numbers in the sheet's units, with one rounding, and whether that met a half.
-use figures::Rounded;
-use figures::RoundedSize;
+use rounding::Rounded;
+use rounding::RoundedSize;
 ghost use mathlib.Core.Path.{_≡_};
 ghost use Prim.Native.Nat.{_+_, _*_, _<_, _≤_};
 ghost use lib.Dec.{T};
 ghost use lib.IntN.{pos, natAbs, _+ℤ_, _-ℤ_, _*ℤ_};
 ghost use lib.Signed.{nonNeg};
-ghost use Rattle.figures.specs.Ranges.{mostH, mostV, mostA, mostB, mostC, mostP, mostM, mostD, mostS, mostQ, mostX, mostWord, mostStep, mostGap, mostScale, mostNumerator};
+ghost use Rattle.rounding.specs.Ranges.{mostH, mostV, mostA, mostB, mostC, mostP, mostM, mostD, mostS, mostQ, mostX, mostWord, mostStep, mostGap, mostScale, mostNumerator};
 ghost use Rattle.steps.specs.Steps.{qOf, qHalf, sizeOfX, sizeOfXHalf, rise, riseHalf, reduction, reductionHalf, seconds, secondsHalf, approximateL, approximateLHalf, sizeOfL, sizeOfLHalf, convergence, convergenceHalf, perSecond};
 ghost use Rattle.steps.specs.Wide.{towardZero};
 
@@ -15,7 +15,7 @@ pub fn q_of(s: u64) -> RoundedSize
     requires { ⌜ s ≤ mostS ⌝ }
     ensures { λ r. ⌜ (r .value ≡ qOf s) × (r .half ≡ qHalf s) ⌝ }
 {
-    figures::nearest_size(s * s, 10_000_000)
+    rounding::nearest_size(s * s, 10_000_000)
 }
 
 // The size of x′, in 0.01 ft: H·s + a·b, which is not negative.
@@ -24,7 +24,7 @@ pub fn size_of_x(h: u64, s: u64, a: i64, b: i64) -> RoundedSize
     ensures { λ r. ⌜ (pos (r .value) ≡ sizeOfX h s a b) × (r .half ≡ sizeOfXHalf h s a b) ⌝ }
 {
     let sum = (h * s) as i64 + a * b * 1_000;
-    figures::nearest_size(sum as u64, 10_000_000)
+    rounding::nearest_size(sum as u64, 10_000_000)
 }
 
 // The rise of y above y0, in 0.01 ft: V·q + c.
@@ -32,7 +32,7 @@ pub fn rise(v: u64, q: u64, c: i64) -> Rounded
     requires { ⌜ (v ≤ mostV) × (q ≤ mostQ) × (natAbs c ≤ mostC) ⌝ }
     ensures { λ r. ⌜ (r .value ≡ rise v q c) × (r .half ≡ riseHalf v q c) ⌝ }
 {
-    figures::nearest((v * q) as i64 + c * 1_000_000, 10_000_000)
+    rounding::nearest((v * q) as i64 + c * 1_000_000, 10_000_000)
 }
 
 // t + e/K rounded toward zero, for any K above e.
@@ -67,13 +67,13 @@ pub fn reduction(p: u64, x: u64, d: i64) -> Rounded
     let t = whole as i64 + d * (HIGH as i64);
     let rest = low % LOW;
     if t < 0 {
-        let r = figures::nearest(toward_zero(t, rest), HIGH);
+        let r = rounding::nearest(toward_zero(t, rest), HIGH);
         return Rounded {
             value: r.value,
             half: r.half & (rest == 0),
         };
     }
-    let size = figures::nearest_size(t as u64, HIGH);
+    let size = rounding::nearest_size(t as u64, HIGH);
     Rounded {
         value: size.value as i64,
         half: size.half & (rest == 0),
@@ -85,7 +85,7 @@ pub fn seconds(span: u64, past: u64, gap: u64) -> RoundedSize
     requires { ⌜ (span ≤ mostStep) × (past ≤ mostGap) × (0 < gap) × (gap ≤ mostGap) ⌝ }
     ensures { λ r. ⌜ (r .value ≡ seconds span past gap) × (r .half ≡ secondsHalf span past gap) ⌝ }
 {
-    figures::nearest_size(span * past, gap)
+    rounding::nearest_size(span * past, gap)
 }
 
 // Approximate L, in whole seconds: |x′|/H.
@@ -93,7 +93,7 @@ pub fn approximate_l(x: u64, h: u64) -> RoundedSize
     requires { ⌜ (x ≤ mostX) × (0 < h) × (h ≤ mostH) ⌝ }
     ensures { λ r. ⌜ (r .value ≡ approximateL x h) × (r .half ≡ approximateLHalf x h) ⌝ }
 {
-    figures::nearest_size(x * 10_000, h)
+    rounding::nearest_size(x * 10_000, h)
 }
 
 // The size of L, in 0.001″: (|x′| − a·b)/H, which is not negative.
@@ -102,7 +102,7 @@ pub fn size_of_l(x: u64, a: i64, b: i64, h: u64) -> RoundedSize
     ensures { λ r. ⌜ (pos (r .value) ≡ sizeOfL x a b h) × (r .half ≡ sizeOfLHalf x a b h) ⌝ }
 {
     let rest = ((x * 10_000) as i64 - a * b) * 1_000;
-    figures::nearest_size(rest as u64, h)
+    rounding::nearest_size(rest as u64, h)
 }
 
 // Δα, in 0.1″: M·x′.
@@ -110,7 +110,7 @@ pub fn convergence(m: u64, x: i64) -> Rounded
     requires { ⌜ (m ≤ mostM) × (natAbs x ≤ mostWord) ⌝ }
     ensures { λ r. ⌜ (r .value ≡ convergence m x) × (r .half ≡ convergenceHalf m x) ⌝ }
 {
-    figures::nearest((m as i64) * x, 100_000_000)
+    rounding::nearest((m as i64) * x, 100_000_000)
 }
 
 // A difference over 60 seconds, scaled to its column's unit.
@@ -118,5 +118,5 @@ pub fn per_second(scale: u64, difference: i64) -> i64
     requires { ⌜ (scale ≤ mostScale) × (natAbs difference ≤ mostWord + mostWord) ⌝ }
     ensures { λ r. ⌜ r ≡ perSecond scale difference ⌝ }
 {
-    figures::nearest((scale as i64) * difference, 60).value
+    rounding::nearest((scale as i64) * difference, 60).value
 }

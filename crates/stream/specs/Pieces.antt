@@ -3,7 +3,7 @@ use Prim.Native.Nat.{ℕ}
 use mathlib.Core.Path.{_≡_}
 use mathlib.Core.List.{List, [], _∷_, _++_}
 use lib.ListN.{take}
-use Rattle.stream.specs.Stream.{lastLine, linesOf, endedLines, keptOf, mostKept}
+use Rattle.stream.specs.Stream.{lastLine, endedLines, keptOf, mostKept}
 
 -- A way to answer lines: what a line is answered, the state after it, and what stands behind the last answer.
 pub record Way (A : Type 0) : Type 0 where

@@ -7,8 +7,8 @@ use lib.IntN.{ℤ, pos, natAbs}
 use lib.Signed.{mag, nonNeg}
 use mir.Syntax.{w64}
 use mir.Val.{Fits, SFits, toZ, ofZ}
-use Rattle.figures.proofs.Sizes.{Size, size-nonNeg}
-use Rattle.figures.proofs.Holds.{Holds, held-result, held-size, renamed, unsigned-fits}
+use Rattle.rounding.proofs.Sizes.{Size, size-nonNeg}
+use Rattle.rounding.proofs.Holds.{Holds, held-result, held-size, renamed, unsigned-fits}
 
 module _ {r v : ℤ} (ok : mag r < 2 ^ 63) (e : r ≡ v) where
   holds : {k : ℕ} → natAbs v ≤ k → Holds w64 (ofZ w64 r) v k

@@ -11,8 +11,8 @@ use lib.Signed.{leZ}
 use Rattle.entries.specs.declared.Places.{Places}
 use Rattle.entries.specs.Layout.{latitude, widthOf}
 use Rattle.entries.specs.Entries.{rowsOf, bodyOf}
-use Rattle.bodies.specs.Check.{KnownToPass}
-use Rattle.bodies.proofs.Known.{latitude-placed}
+use Rattle.sheet_check.specs.Check.{KnownToPass}
+use Rattle.sheet_check.proofs.Known.{latitude-placed}
 use Rattle.reading.specs.Tables.{column, NotNegative}
 use Rattle.row_search.specs.Rows.{lastNotAbove, Rising}
 use Rattle.row_search.proofs.LastRow.{but-last}

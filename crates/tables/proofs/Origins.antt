@@ -4,8 +4,8 @@ use mathlib.Core.List.{List}
 use Prim.Native.Nat.{ℕ}
 use mir.Syntax.{w64}
 use mir.Val.{ofZ}
-use Rattle.figures.proofs.Holds.{Holds, held-by}
-use Rattle.bodies.specs.Check.{checkOf}
+use Rattle.rounding.proofs.Holds.{Holds, held-by}
+use Rattle.sheet_check.specs.Check.{checkOf}
 use Rattle.tables.specs.declared.Origin.{Origin}
 use Rattle.tables.specs.Figures.{centralMeridian, falseEasting, firstLatitude, originOf}
 use Rattle.tables.proofs.Ranges.{central-size, easting-size, first-most}

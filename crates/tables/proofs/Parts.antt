@@ -11,8 +11,8 @@ use lib.ListN.{length}
 use lib.Signed.{leZ}
 use mir.Syntax.{w32, w64}
 use mir.Val.{Fits, toZ}
-use Rattle.figures.specs.Ranges.{mostStep}
-use Rattle.figures.proofs.Holds.{held-size}
+use Rattle.rounding.specs.Ranges.{mostStep}
+use Rattle.rounding.proofs.Holds.{held-size}
 use Rattle.words.specs.Words.{unsignedAt, wordAt}
 use Rattle.entries.specs.declared.Place.{Place}
 use Rattle.entries.specs.Layout.{lastKind, mostBytes, widthOf, leastRows, mostRows, usualStep, farthest}

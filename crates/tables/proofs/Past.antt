@@ -13,7 +13,7 @@ use Rattle.entries.specs.declared.Place.{Place}
 use Rattle.entries.specs.Layout.{latitude, widthOf, oneMinute}
 use Rattle.entries.specs.Entries.{rowsOf, bodyOf, Within}
 use Rattle.contents.specs.Contents.{Placed}
-use Rattle.bodies.specs.Check.{checkOf}
+use Rattle.sheet_check.specs.Check.{checkOf}
 use Rattle.reading.specs.Tables.{column, pastRow, pastRowHalf, NotNegative}
 use Rattle.reading.proofs.Within.{next-within}
 use Rattle.reading.proofs.Pairs.{past-value, past-half}

@@ -9,19 +9,19 @@ use borrow.Author.Tests.{le-leb}
 use lib.Dec.{lit<, lit≤}
 use lib.IntN.{ℤ, pos, natAbs}
 use lib.Signed.{leZ}
-use Rattle.figures.specs.Ranges.{mostH, mostV, mostA, mostB, mostC, mostP, mostM, mostD}
-use Rattle.figures.proofs.Sizes.{Size, times-most}
+use Rattle.rounding.specs.Ranges.{mostH, mostV, mostA, mostB, mostC, mostP, mostM, mostD}
+use Rattle.rounding.proofs.Sizes.{Size, times-most}
 use Rattle.rules.specs.Latitude.{leastRise, mostRise}
 use Rattle.rules.proofs.WhatPasses.{InRange, range-size, range-most}
-use Rattle.rows.specs.Rows.{figuresAt}
-use Rattle.rows.proofs.PassingFigures.{minute-in-range, figures-in-range, figures-within}
+use Rattle.latitude_rows.specs.Rows.{figuresAt}
+use Rattle.latitude_rows.proofs.PassingFigures.{minute-in-range, figures-in-range, figures-within}
 use Rattle.small_rows.proofs.PassingFigures.{b-most}
 use Rattle.entries.specs.Layout.{lastKind, leastRows, zone, latitude, longitude, northing, easting, scale, oneMinute}
 use Rattle.entries.specs.Entries.{rowsOf, stepOf, lastOf, bodyOf, Within}
 use Rattle.contents.proofs.Passing.{rows-some, rows-least, step-usual}
-use Rattle.bodies.specs.Check.{checkOf}
-use Rattle.bodies.proofs.Known.{contents-none}
-use Rattle.bodies.proofs.Sound.{passes-sound, zone-rows, latitude-rows, longitude-rows, northing-rows, easting-rows, scale-rows}
+use Rattle.sheet_check.specs.Check.{checkOf}
+use Rattle.sheet_check.proofs.Known.{contents-none}
+use Rattle.sheet_check.proofs.Sound.{passes-sound, zone-rows, latitude-rows, longitude-rows, northing-rows, easting-rows, scale-rows}
 use Rattle.reading.specs.Tables.{NotNegative}
 use Rattle.row_search.specs.Rows.{RisesBy, Rising}
 use Rattle.row_search.proofs.Rising.{rises-rising}

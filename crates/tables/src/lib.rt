@@ -1,18 +1,18 @@
 // The figures of a sheet that passes the check, by name: at its rows and between them. The sheet goes with its places, which are worked once.
 use entries::Place;
 use entries::Places;
-use figures::Rounded;
-use figures::RoundedSize;
+use rounding::Rounded;
+use rounding::RoundedSize;
 ghost use mathlib.Core.Path.{_≡_};
 ghost use mathlib.Core.Bool.{true};
 ghost use Prim.Native.Nat.{_+_, _-_, _*_, _^_, _<_, _≤_, min};
 ghost use lib.IntN.{pos, natAbs};
 ghost use lib.Signed.{leZ};
-ghost use Rattle.figures.specs.Ranges.{mostH, mostV, mostA, mostB, mostC, mostP, mostM, mostD};
+ghost use Rattle.rounding.specs.Ranges.{mostH, mostV, mostA, mostB, mostC, mostP, mostM, mostD};
 ghost use Rattle.entries.specs.Layout.{latitude, longitude, northing, easting, scale, widthOf, leastRows, oneMinute};
 ghost use Rattle.entries.specs.Entries.{rowsOf, stepOf, Within};
 ghost use Rattle.contents.specs.Contents.{Placed};
-ghost use Rattle.bodies.specs.Check.{KnownToPass};
+ghost use Rattle.sheet_check.specs.Check.{KnownToPass};
 ghost use Rattle.reading.specs.Tables.{NotNegative};
 ghost use Rattle.row_search.specs.Rows.{lastNotAbove};
 ghost use Rattle.tables.specs.Figures.{figureOf, figureAt, figureHalf, centralMeridian, falseEasting, firstLatitude, originOf, y0Of, y0At, y0Half, hAt, hHalf, vAt, vHalf, aAt, aHalf, bAt, bHalf, cAt, cHalf, pAt, pHalf, mAt, mHalf, dAt, dHalf, kAt, kHalf};
@@ -142,11 +142,11 @@ fn row_among(s: &[u8], p: Places, n: usize, z: i64) -> usize
 {
     let b = contents::body(s, p.latitude, entries::LATITUDE);
     let rise = (rules::LEAST_RISE as u64 + rules::MOST_RISE as u64) / 2;
-    row_search::row_of(b, entries::LATITUDE_WIDTH, 1, n, rise, z)
+    row_search::last_not_above(b, entries::LATITUDE_WIDTH, 1, n, rise, z)
 }
 
 // The last latitude row with y0 not above z, which is not below the first.
-pub fn row_of(s: &[u8], p: Places, z: i64) -> usize
+pub fn row_of_northing(s: &[u8], p: Places, z: i64) -> usize
     requires { ⌜ KnownToPass (now s) p × (leZ (y0Of (now s) 0) z ≡ true) × (natAbs z < 2 ^ 62) ⌝ }
     ensures { λ r. ⌜ (r ≡ lastNotAbove (y0Of (now (s .entry))) (rowsOf (now (s .entry)) latitude) z) × (r < rowsOf (now (s .entry)) latitude) ⌝ }
 {

@@ -4,9 +4,9 @@ use mathlib.Core.Bool.{Bool, not, true, false}
 use mathlib.Core.List.{List}
 use Prim.Native.Nat.{ℕ}
 use lib.IntN.{ℤ}
-use Rattle.words.specs.Ladder.{need}
-use Rattle.words.proofs.Refusals.{stop, go}
-use Rattle.bodies.specs.Check.{checkOf}
+use Rattle.refusals.specs.Ladder.{need}
+use Rattle.refusals.proofs.Ladders.{stop, go}
+use Rattle.sheet_check.specs.Check.{checkOf}
 use Rattle.convert.proofs.Checked.{on-pass, after-fault}
 use Rattle.touched.specs.Touched.{touch, noTouch, hasMinute, rowNamed, forwardTouched, inverseTouched, geographicTouched, planeTouched}
 

@@ -9,14 +9,14 @@ use lib.IntN.{ℤ, pos, natAbs, _+ℤ_, _-ℤ_}
 use lib.Signed.{mag, leZ, ltZ}
 use mir.Syntax.{w64}
 use mir.Val.{Fits, ofZ}
-use Rattle.figures.proofs.Holds.{Holds, held-result, renamed}
-use Rattle.words.proofs.Refusals.{where-below, where-beyond}
+use Rattle.rounding.proofs.Holds.{Holds, held-result, renamed}
+use Rattle.refusals.proofs.Ladders.{where-below, where-beyond}
 use Rattle.rules.specs.Latitude.{mostRise}
 use Rattle.entries.specs.Layout.{latitude}
 use Rattle.entries.specs.Entries.{rowsOf}
 use Rattle.contents.proofs.Passing.{rows-least}
-use Rattle.bodies.specs.Check.{checkOf}
-use Rattle.bodies.proofs.Known.{contents-none}
+use Rattle.sheet_check.specs.Check.{checkOf}
+use Rattle.sheet_check.proofs.Known.{contents-none}
 use Rattle.tables.specs.Figures.{y0Of}
 use Rattle.extent.proofs.Reach.{latitude-count}
 use Rattle.touched.specs.Touched.{abovePrior, belowNext}

@@ -9,9 +9,9 @@ use lib.ListN.{length}
 use Rattle.entries.specs.declared.Places.{Places}
 use Rattle.entries.specs.Layout.{latitude, widthOf, rowBytes}
 use Rattle.entries.specs.Entries.{bodyOf}
-use Rattle.bodies.specs.Check.{KnownToPass}
+use Rattle.sheet_check.specs.Check.{KnownToPass}
 use Rattle.extent.proofs.Counts.{count-is}
-use Rattle.judge.specs.Judge.{namedRow, hasRow}
+use Rattle.minute_row.specs.MinuteRow.{namedRow, hasRow}
 use Rattle.touched.specs.Touched.{hasMinute, rowNamed}
 
 module _ (s : List ℕ) (p : Places) (known : KnownToPass s p) (b : List ℕ) (is : b ≡ bodyOf s latitude) where

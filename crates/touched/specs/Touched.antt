@@ -7,7 +7,7 @@ use Prim.Native.Nat.{ℕ, _+_, _-_}
 use lib.Dec.{ltb}
 use lib.IntN.{ℤ, pos, natAbs, _+ℤ_, _-ℤ_, _*ℤ_}
 use lib.Signed.{leZ, ltZ}
-use Rattle.words.specs.Ladder.{need, whereBelow}
+use Rattle.refusals.specs.Ladder.{need, whereBelow}
 use Rattle.rules.specs.Latitude.{mostRise}
 use Rattle.entries.specs.Layout.{latitude, oneMinute}
 use Rattle.entries.specs.Entries.{rowsOf, bodyOf}
@@ -15,7 +15,7 @@ use Rattle.tables.specs.Figures.{y0Of}
 use Rattle.extent.specs.Extent.{latitudeKnown, longitudeKnown, xPrime, eastingKnown, northingKnown}
 use Rattle.inverse.specs.Inverse.{reducedNorthing}
 use Rattle.convert.specs.Conversions.{afterCheck}
-use Rattle.judge.specs.Judge.{namedRow, hasRow}
+use Rattle.minute_row.specs.MinuteRow.{namedRow, hasRow}
 use Rattle.touched.specs.declared.Touch.{Touch}
 
 -- The answer: a number, and whether the point's answer may change. Where the number is not 0 the question is refused: then `touched` is false, and says nothing of the point.

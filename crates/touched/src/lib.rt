@@ -6,7 +6,7 @@ ghost use mathlib.Core.Bool.{true};
 ghost use Prim.Native.Nat.{_<_};
 ghost use Rattle.entries.specs.Layout.{latitude};
 ghost use Rattle.entries.specs.Entries.{rowsOf};
-ghost use Rattle.bodies.specs.Check.{KnownToPass};
+ghost use Rattle.sheet_check.specs.Check.{KnownToPass};
 ghost use Rattle.touched.specs.Touched.{hasMinute, rowNamed, nearRow, forwardTouched, abovePrior, belowNext, inverseTouched, geographicTouched, planeTouched};
 
 // Whether a correction may change a point's answer. A refusal has its number, and no.
@@ -21,7 +21,7 @@ fn has_minute(s: &[u8], p: Places, minute: i32) -> bool
     ensures { λ r. ⌜ r ≡ hasMinute (now (s .entry)) minute ⌝ }
 {
     let b = contents::body(s, p.latitude, entries::LATITUDE);
-    judge::has_row(b, p.latitude.rows, minute)
+    minute_row::has_row(b, p.latitude.rows, minute)
 }
 
 // The latitude row with the minute, which the sheet has.
@@ -30,14 +30,14 @@ fn row_named(s: &[u8], p: Places, minute: i32) -> usize
     ensures { λ r. ⌜ (r ≡ rowNamed (now (s .entry)) minute) × (r < rowsOf (now (s .entry)) latitude) ⌝ }
 {
     let b = contents::body(s, p.latitude, entries::LATITUDE);
-    judge::named_row(b, p.latitude.rows, minute)
+    minute_row::named_row(b, p.latitude.rows, minute)
 }
 
 // Whether the latitude lies less than a minute from the row's.
 fn near_row(minute: i32, latitude: i32) -> bool
     ensures { λ r. ⌜ r ≡ nearRow minute latitude ⌝ }
 {
-    figures::size((latitude as i64) - (minute as i64) * (entries::ONE_MINUTE as i64))
+    rounding::size((latitude as i64) - (minute as i64) * (entries::ONE_MINUTE as i64))
         < entries::ONE_MINUTE
 }
 
@@ -91,7 +91,7 @@ fn may_move_earth(s: &[u8], p: Places, r: usize, x: i32, y: i32) -> bool
     if !extent::northing_known(s, p, y) {
         return false;
     }
-    let reduced = inverse::reduced_northing(s, p, figures::size(xp), y).value;
+    let reduced = inverse::reduced_northing(s, p, rounding::size(xp), y).value;
     above_prior(s, p, r, reduced) & below_next(s, p, r, reduced)
 }
 
@@ -116,7 +116,7 @@ pub fn forward_touched(s: &[u8], p: Places, minute: i32, latitude: i32, longitud
 pub fn geographic_touched(sheet: &[u8], minute: i32, latitude: i32, longitude: i32) -> Touch
     ensures { λ r. ⌜ r ≡ geographicTouched (now (sheet .entry)) minute latitude longitude ⌝ }
 {
-    let number = bodies::check(sheet).number;
+    let number = sheet_check::check(sheet).number;
     if number != 0 {
         return Touch {
             number,
@@ -154,7 +154,7 @@ pub fn inverse_touched(s: &[u8], p: Places, minute: i32, x: i32, y: i32) -> Touc
 pub fn plane_touched(sheet: &[u8], minute: i32, x: i32, y: i32) -> Touch
     ensures { λ r. ⌜ r ≡ planeTouched (now (sheet .entry)) minute x y ⌝ }
 {
-    let number = bodies::check(sheet).number;
+    let number = sheet_check::check(sheet).number;
     if number != 0 {
         return Touch {
             number,

@@ -59,7 +59,7 @@ fn put_signed(z: i32) {
     if wide < 0 {
         put(b'-');
     }
-    io::print_decimal(STDOUT_FILENO, figures::size(wide));
+    io::print_decimal(STDOUT_FILENO, rounding::size(wide));
 }
 
 // A float; a NaN has no bits here.

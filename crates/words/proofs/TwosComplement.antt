@@ -12,8 +12,8 @@ use lib.Signed.{ltZ, leZ}
 use mir.Syntax.{w32}
 use mir.Val.{SFits, toZ, ofZ}
 use mir.Facts.{toZ-ofZ, fits-ofZ, sfits-toZ}
-use Rattle.figures.specs.Between.{lowered}
-use Rattle.figures.proofs.Sizes.{pos-minus, subℕ-le, subℕ-lt}
+use Rattle.rounding.specs.Between.{lowered}
+use Rattle.rounding.proofs.Sizes.{pos-minus, subℕ-le, subℕ-lt}
 use Rattle.words.specs.Words.{signed32, bits32}
 
 -- ---- the two readings are the machine's own

@@ -1,5 +1,3 @@
--- The definitions that `words` and the crates above it cite: words of a sheet, parts of it, and refusals in their order.
+-- The definitions that `words` and the crates above it cite: words of a sheet, and parts of it.
 pub mod Words
 pub mod Parts
-pub mod Ladder
-pub mod Faults

@@ -2,14 +2,8 @@
 ghost use mathlib.Core.Path.{_≡_};
 ghost use Prim.Native.Nat.{_+_, _*_, _<_, _≤_};
 ghost use lib.ListN.{length};
-ghost use Rattle.figures.specs.Between.{lowered};
+ghost use Rattle.rounding.specs.Between.{lowered};
 ghost use Rattle.words.specs.Words.{unsignedAt, wordAt, bits32, putWord};
-
-// A fault's number, and the place that has it: a row, or an entry, counted from 0. No fault is 0 0.
-pub struct Fault {
-    pub number: u32,
-    pub place: usize,
-}
 
 // A byte, as a wider number.
 fn wide(b: u8) -> u32

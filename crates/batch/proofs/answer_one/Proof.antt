@@ -14,38 +14,8 @@ use borrow.Author.Needs.{needs}
 use Rattle.batch.proofs.answer_one.Statement.{statement}
 use Rattle.batch.proofs.answer_one.Tie as tie
 
-mul-forward-from : tie.Need-mul-forward-from
-mul-forward-from c = search needs
-
-mul-forward-from-2 : tie.Need-mul-forward-from-2
-mul-forward-from-2 c = search needs
-
-shared-slice-copy-out-forward-from : tie.Need-shared-slice-copy-out-forward-from
-shared-slice-copy-out-forward-from c = search needs
-
-mul-forward-from-3 : tie.Need-mul-forward-from-3
-mul-forward-from-3 c = search needs
-
-add-forward-from : tie.Need-add-forward-from
-add-forward-from c = search needs
-
-mul-forward-from-4 : tie.Need-mul-forward-from-4
-mul-forward-from-4 c = search needs
-
-shared-slice-copy-out-forward-from-2 : tie.Need-shared-slice-copy-out-forward-from-2
-shared-slice-copy-out-forward-from-2 c = search needs
-
-forward-from-requires : tie.Need-forward-from-requires
-forward-from-requires c κs = search needs
-
-mul-put : tie.Need-mul-put
-mul-put c = search needs
-
 put-requires : tie.Need-put-requires
 put-requires c κs = (omega (arith, c .before .before .before .before .before .before .before .pre .3), rw (c .before .before .before .forward-from .ensures) (number-small _ _ _))
-
-same-length : tie.Need-same-length
-same-length c = search needs
 
 returns : tie.Need-returns
 returns c =
@@ -63,15 +33,15 @@ pub answer-one-spec : {M : Type 1} → statement M
 answer-one-spec =
     tie.close
     (tie.spec
-    mul-forward-from
-    mul-forward-from-2
-    shared-slice-copy-out-forward-from
-    mul-forward-from-3
-    add-forward-from
-    mul-forward-from-4
-    shared-slice-copy-out-forward-from-2
-    forward-from-requires
-    mul-put
+    (λ c. search needs)
+    (λ c. search needs)
+    (λ c. search needs)
+    (λ c. search needs)
+    (λ c. search needs)
+    (λ c. search needs)
+    (λ c. search needs)
+    (λ c κs. search needs)
+    (λ c. search needs)
     put-requires
-    same-length
+    (λ c. search needs)
     returns)

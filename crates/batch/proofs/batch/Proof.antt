@@ -1,7 +1,7 @@
 -- `batch::batch` meets its contract: 17, the check's number, or every point answered. Assumes nothing.
 use borrow.Author.Needs.{needs}
 use mathlib.Core.Path.{sym, ap, _∙_}
-use Rattle.words.proofs.Refusals.{kept}
+use Rattle.refusals.proofs.Ladders.{kept}
 use Rattle.convert.proofs.Checked.{sheet-long}
 use Rattle.batch.proofs.Turns.{refused-17, refused-check, all-answered}
 use Rattle.batch.proofs.batch.Statement.{statement}
@@ -26,9 +26,6 @@ returns-3 c =
 is-taken-requires : tie.Need-is-taken-requires
 is-taken-requires c κs = search needs
 
-check-requires : tie.Need-check-requires
-check-requires c κs = search needs
-
 places-of-requires : tie.Need-places-of-requires
 places-of-requires c κs = sheet-long _ (sym (ap (λ v. v .number) (c .before .check .ensures)) ∙ c .if2 .left)
 
@@ -43,7 +40,7 @@ batch-spec =
     (tie.spec
     is-taken-requires
     returns
-    check-requires
+    (λ c κs. search needs)
     returns-2
     places-of-requires
     answer-all-requires

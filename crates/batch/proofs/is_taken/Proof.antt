@@ -11,11 +11,8 @@ returns c = odd _ _ (c .if1 .taken)
 returns-2 : tie.Need-returns-2
 returns-2 c = many _ _ (c .if2 .taken)
 
-mul-result : tie.Need-mul-result
-mul-result c = search needs
-
 returns-3 : tie.Need-returns-3
 returns-3 c = narrow _ _ (omega (arith, c .before .if1 .left)) (omega (arith, c .if2 .left))
 
 pub is-taken-spec : {M : Type 1} → statement M
-is-taken-spec = tie.close (tie.spec returns returns-2 mul-result returns-3)
+is-taken-spec = tie.close (tie.spec returns returns-2 (λ c. search needs) returns-3)

@@ -26,41 +26,14 @@ stored c =
     let f : at + 2 ≡ suc (suc at) = omega arith in
     rw (toZ-pos w32 (c .args .number) (c .pre .1), toZ-ofZ w32 (c .args .x) (c .fits .x), toZ-ofZ w32 (c .args .y) (c .fits .y), e, f)
 
-cast-answers : tie.Need-cast-answers
-cast-answers c = search needs
-
-mul-t7 : tie.Need-mul-t7
-mul-t7 c = search needs
-
-slice-set-from-answers : tie.Need-slice-set-from-answers
-slice-set-from-answers c = search needs
-
-add-x : tie.Need-add-x
-add-x c = search needs
-
-mul-x : tie.Need-mul-x
-mul-x c = search needs
-
 slice-set-from-x : tie.Need-slice-set-from-x
 slice-set-from-x c = simp length-set (omega arith)
-
-add-y : tie.Need-add-y
-add-y c = search needs
-
-mul-y : tie.Need-mul-y
-mul-y c = search needs
 
 slice-set-from-y : tie.Need-slice-set-from-y
 slice-set-from-y c = simp length-set (omega arith)
 
-same-length : tie.Need-same-length
-same-length c = search needs
-
 returns : tie.Need-returns
 returns c = (rw (eq-eqb (c .before .args .number) 0 (c .if1 .taken)), lit≤ tt, stored (c .before))
-
-same-length-2 : tie.Need-same-length-2
-same-length-2 c = search needs
 
 returns-2 : tie.Need-returns-2
 returns-2 c = (rw (ne-eqb (c .before .args .number) 0 (c .if1 .left)), lit≤ tt, stored (c .before))
@@ -69,16 +42,16 @@ pub put-spec : {M : Type 1} → statement M
 put-spec =
     tie.close
     (tie.spec
-    cast-answers
-    mul-t7
-    slice-set-from-answers
-    add-x
-    mul-x
+    (λ c. search needs)
+    (λ c. search needs)
+    (λ c. search needs)
+    (λ c. search needs)
+    (λ c. search needs)
     slice-set-from-x
-    add-y
-    mul-y
+    (λ c. search needs)
+    (λ c. search needs)
     slice-set-from-y
-    same-length
+    (λ c. search needs)
     returns
-    same-length-2
+    (λ c. search needs)
     returns-2)

@@ -5,18 +5,6 @@ use Rattle.blocks.proofs.Answering.{answered}
 use Rattle.blocks.proofs.answer_block.Statement.{statement}
 use Rattle.blocks.proofs.answer_block.Tie as tie
 
-answer-lines-requires : tie.Need-answer-lines-requires
-answer-lines-requires c κs = search needs
-
-keep-requires : tie.Need-keep-requires
-keep-requires c κs = search needs
-
-same-length : tie.Need-same-length
-same-length c = search needs
-
-same-length-2 : tie.Need-same-length-2
-same-length-2 c = search needs
-
 returns : tie.Need-returns
 returns c =
     let kept = c .before .before in
@@ -28,4 +16,4 @@ returns c =
 
 pub answer-block-spec : {M : Type 1} → statement M
 answer-block-spec =
-    tie.close (tie.spec answer-lines-requires keep-requires same-length same-length-2 returns)
+    tie.close (tie.spec (λ c κs. search needs) (λ c κs. search needs) (λ c. search needs) (λ c. search needs) returns)

@@ -11,21 +11,6 @@ returns c =
     let first = c .before .before .before .before in
     (omega arith, last-none (now (first .args .s)) _ (now (first .args .buffer)) (now (first .args .out)) (c .if1 .taken))
 
-sub-answer : tie.Need-sub-answer
-sub-answer c = search needs
-
-part-answer-start : tie.Need-part-answer-start
-part-answer-start c = search needs
-
-part-answer-end : tie.Need-part-answer-end
-part-answer-end c = search needs
-
-answer-requires : tie.Need-answer-requires
-answer-requires c κs = search needs
-
-same-length : tie.Need-same-length
-same-length c = search needs
-
 returns-2 : tie.Need-returns-2
 returns-2 c =
     let put = c .before .before .answer in
@@ -38,9 +23,9 @@ answer-last-spec =
     tie.close
     (tie.spec
     returns
-    sub-answer
-    part-answer-start
-    part-answer-end
-    answer-requires
-    same-length
+    (λ c. search needs)
+    (λ c. search needs)
+    (λ c. search needs)
+    (λ c κs. search needs)
+    (λ c. search needs)
     returns-2)

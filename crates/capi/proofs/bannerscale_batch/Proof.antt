@@ -5,14 +5,8 @@ use borrow.Author.Needs.{needs}
 use Rattle.capi.proofs.bannerscale_batch.Statement.{statement}
 use Rattle.capi.proofs.bannerscale_batch.Tie as tie
 
-batch-requires : tie.Need-batch-requires
-batch-requires c κs = search needs
-
-same-length : tie.Need-same-length
-same-length c = search needs
-
 returns : tie.Need-returns
 returns c = (ap batchAnswer (c .before .batch .ensures .0), c .before .batch .ensures .1)
 
 pub bannerscale-batch-spec : {M : Type 1} → statement M
-bannerscale-batch-spec = tie.close (tie.spec batch-requires same-length returns)
+bannerscale-batch-spec = tie.close (tie.spec (λ c κs. search needs) (λ c. search needs) returns)

@@ -5,11 +5,8 @@ use borrow.Author.Needs.{needs}
 use Rattle.capi.proofs.bannerscale_check.Statement.{statement}
 use Rattle.capi.proofs.bannerscale_check.Tie as tie
 
-check-requires : tie.Need-check-requires
-check-requires c κs = search needs
-
 returns : tie.Need-returns
 returns c = ap checkAnswer (c .check .ensures)
 
 pub bannerscale-check-spec : {M : Type 1} → statement M
-bannerscale-check-spec = tie.close (tie.spec check-requires returns)
+bannerscale-check-spec = tie.close (tie.spec (λ c κs. search needs) returns)

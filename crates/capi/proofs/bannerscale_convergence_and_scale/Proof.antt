@@ -2,15 +2,12 @@
 use mathlib.Core.Path.{_≡_, ap, _∙_}
 use mir.Syntax.{w32}
 use mir.Val.{toZ, ofZ}
-use Rattle.figures.proofs.Bits.{both-same}
+use Rattle.rounding.proofs.Bits.{both-same}
 use Rattle.convert.specs.Conversions.{convergenceAndScale}
 use Rattle.capi.specs.Answers.{grid, gridAnswer}
 use borrow.Author.Needs.{needs}
 use Rattle.capi.proofs.bannerscale_convergence_and_scale.Statement.{statement}
 use Rattle.capi.proofs.bannerscale_convergence_and_scale.Tie as tie
-
-convergence-and-scale-requires : tie.Need-convergence-and-scale-requires
-convergence-and-scale-requires c κs = search needs
 
 returns : tie.Need-returns
 returns c =
@@ -24,4 +21,4 @@ returns c =
 
 pub bannerscale-convergence-and-scale-spec : {M : Type 1} → statement M
 bannerscale-convergence-and-scale-spec =
-    tie.close (tie.spec convergence-and-scale-requires returns)
+    tie.close (tie.spec (λ c κs. search needs) returns)

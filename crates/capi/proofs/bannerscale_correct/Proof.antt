@@ -6,12 +6,6 @@ use borrow.Author.Needs.{needs}
 use Rattle.capi.proofs.bannerscale_correct.Statement.{statement}
 use Rattle.capi.proofs.bannerscale_correct.Tie as tie
 
-correct-requires : tie.Need-correct-requires
-correct-requires c κs = search needs
-
-same-length : tie.Need-same-length
-same-length c = search needs
-
 returns : tie.Need-returns
 returns c =
     let start = c .before .before .before .before .before in
@@ -23,4 +17,4 @@ returns c =
     rw (← minute, ← y0, ← h, ← v, ← a) (c .before .before .correct .ensures)
 
 pub bannerscale-correct-spec : {M : Type 1} → statement M
-bannerscale-correct-spec = tie.close (tie.spec correct-requires same-length returns)
+bannerscale-correct-spec = tie.close (tie.spec (λ c κs. search needs) (λ c. search needs) returns)

@@ -6,18 +6,9 @@ use borrow.Author.Needs.{needs}
 use Rattle.capi.proofs.bannerscale_door_convergence_and_scale.Statement.{statement}
 use Rattle.capi.proofs.bannerscale_door_convergence_and_scale.Tie as tie
 
-point-of-requires : tie.Need-point-of-requires
-point-of-requires c κs = search needs
-
-convergence-and-scale-requires : tie.Need-convergence-and-scale-requires
-convergence-and-scale-requires c κs = search needs
-
-told-requires : tie.Need-told-requires
-told-requires c κs = search needs
-
 returns : tie.Need-returns
 returns c = c .told .ensures ∙ ap doorAnswer (c .before .convergence-and-scale .ensures ∙ ap (toGrid _) (c .before .before .point-of .ensures))
 
 pub bannerscale-door-convergence-and-scale-spec : {M : Type 1} → statement M
 bannerscale-door-convergence-and-scale-spec =
-    tie.close (tie.spec point-of-requires convergence-and-scale-requires told-requires returns)
+    tie.close (tie.spec (λ c κs. search needs) (λ c κs. search needs) (λ c κs. search needs) returns)

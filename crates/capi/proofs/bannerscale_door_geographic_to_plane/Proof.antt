@@ -6,18 +6,9 @@ use borrow.Author.Needs.{needs}
 use Rattle.capi.proofs.bannerscale_door_geographic_to_plane.Statement.{statement}
 use Rattle.capi.proofs.bannerscale_door_geographic_to_plane.Tie as tie
 
-point-of-requires : tie.Need-point-of-requires
-point-of-requires c κs = search needs
-
-geographic-to-plane-requires : tie.Need-geographic-to-plane-requires
-geographic-to-plane-requires c κs = search needs
-
-told-requires : tie.Need-told-requires
-told-requires c κs = search needs
-
 returns : tie.Need-returns
 returns c = c .told .ensures ∙ ap doorAnswer (c .before .geographic-to-plane .ensures ∙ ap (toPlane _) (c .before .before .point-of .ensures))
 
 pub bannerscale-door-geographic-to-plane-spec : {M : Type 1} → statement M
 bannerscale-door-geographic-to-plane-spec =
-    tie.close (tie.spec point-of-requires geographic-to-plane-requires told-requires returns)
+    tie.close (tie.spec (λ c κs. search needs) (λ c κs. search needs) (λ c κs. search needs) returns)

@@ -6,18 +6,9 @@ use borrow.Author.Needs.{needs}
 use Rattle.capi.proofs.bannerscale_door_plane_to_geographic.Statement.{statement}
 use Rattle.capi.proofs.bannerscale_door_plane_to_geographic.Tie as tie
 
-point-of-requires : tie.Need-point-of-requires
-point-of-requires c κs = search needs
-
-plane-to-geographic-requires : tie.Need-plane-to-geographic-requires
-plane-to-geographic-requires c κs = search needs
-
-told-requires : tie.Need-told-requires
-told-requires c κs = search needs
-
 returns : tie.Need-returns
 returns c = c .told .ensures ∙ ap doorAnswer (c .before .plane-to-geographic .ensures ∙ ap (toGeographic _) (c .before .before .point-of .ensures))
 
 pub bannerscale-door-plane-to-geographic-spec : {M : Type 1} → statement M
 bannerscale-door-plane-to-geographic-spec =
-    tie.close (tie.spec point-of-requires plane-to-geographic-requires told-requires returns)
+    tie.close (tie.spec (λ c κs. search needs) (λ c κs. search needs) (λ c κs. search needs) returns)

@@ -2,15 +2,12 @@
 use mathlib.Core.Path.{_≡_, ap, _∙_}
 use mir.Syntax.{w32}
 use mir.Val.{toZ, ofZ}
-use Rattle.figures.proofs.Bits.{both-same}
+use Rattle.rounding.proofs.Bits.{both-same}
 use Rattle.convert.specs.Conversions.{geographicToPlane}
 use Rattle.capi.specs.Answers.{plane, planeAnswer}
 use borrow.Author.Needs.{needs}
 use Rattle.capi.proofs.bannerscale_geographic_to_plane.Statement.{statement}
 use Rattle.capi.proofs.bannerscale_geographic_to_plane.Tie as tie
-
-geographic-to-plane-requires : tie.Need-geographic-to-plane-requires
-geographic-to-plane-requires c κs = search needs
 
 returns : tie.Need-returns
 returns c =
@@ -23,4 +20,4 @@ returns c =
     both-same (λ a b. plane (r .number) a b (r .half)) first second ∙ ap planeAnswer (c .before .geographic-to-plane .ensures ∙ both-same (geographicToPlane _) one two)
 
 pub bannerscale-geographic-to-plane-spec : {M : Type 1} → statement M
-bannerscale-geographic-to-plane-spec = tie.close (tie.spec geographic-to-plane-requires returns)
+bannerscale-geographic-to-plane-spec = tie.close (tie.spec (λ c κs. search needs) returns)

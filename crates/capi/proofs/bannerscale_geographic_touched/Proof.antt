@@ -7,9 +7,6 @@ use borrow.Author.Needs.{needs}
 use Rattle.capi.proofs.bannerscale_geographic_touched.Statement.{statement}
 use Rattle.capi.proofs.bannerscale_geographic_touched.Tie as tie
 
-geographic-touched-requires : tie.Need-geographic-touched-requires
-geographic-touched-requires c κs = search needs
-
 returns : tie.Need-returns
 returns c =
     let start = c .before .before in
@@ -19,4 +16,4 @@ returns c =
     rw (← zero, ← one, ← two) (ap touchAnswer (c .geographic-touched .ensures))
 
 pub bannerscale-geographic-touched-spec : {M : Type 1} → statement M
-bannerscale-geographic-touched-spec = tie.close (tie.spec geographic-touched-requires returns)
+bannerscale-geographic-touched-spec = tie.close (tie.spec (λ c κs. search needs) returns)

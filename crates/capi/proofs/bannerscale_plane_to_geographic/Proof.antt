@@ -2,15 +2,12 @@
 use mathlib.Core.Path.{_≡_, ap, _∙_}
 use mir.Syntax.{w32}
 use mir.Val.{toZ, ofZ}
-use Rattle.figures.proofs.Bits.{both-same}
+use Rattle.rounding.proofs.Bits.{both-same}
 use Rattle.convert.specs.Conversions.{planeToGeographic}
 use Rattle.capi.specs.Answers.{geographic, geographicAnswer}
 use borrow.Author.Needs.{needs}
 use Rattle.capi.proofs.bannerscale_plane_to_geographic.Statement.{statement}
 use Rattle.capi.proofs.bannerscale_plane_to_geographic.Tie as tie
-
-plane-to-geographic-requires : tie.Need-plane-to-geographic-requires
-plane-to-geographic-requires c κs = search needs
 
 returns : tie.Need-returns
 returns c =
@@ -23,4 +20,4 @@ returns c =
     both-same (λ a b. geographic (r .number) a b (r .half)) first second ∙ ap geographicAnswer (c .before .plane-to-geographic .ensures ∙ both-same (planeToGeographic _) one two)
 
 pub bannerscale-plane-to-geographic-spec : {M : Type 1} → statement M
-bannerscale-plane-to-geographic-spec = tie.close (tie.spec plane-to-geographic-requires returns)
+bannerscale-plane-to-geographic-spec = tie.close (tie.spec (λ c κs. search needs) returns)

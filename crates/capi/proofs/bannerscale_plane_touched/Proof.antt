@@ -7,9 +7,6 @@ use borrow.Author.Needs.{needs}
 use Rattle.capi.proofs.bannerscale_plane_touched.Statement.{statement}
 use Rattle.capi.proofs.bannerscale_plane_touched.Tie as tie
 
-plane-touched-requires : tie.Need-plane-touched-requires
-plane-touched-requires c κs = search needs
-
 returns : tie.Need-returns
 returns c =
     let start = c .before .before in
@@ -19,4 +16,4 @@ returns c =
     rw (← zero, ← one, ← two) (ap touchAnswer (c .plane-touched .ensures))
 
 pub bannerscale-plane-touched-spec : {M : Type 1} → statement M
-bannerscale-plane-touched-spec = tie.close (tie.spec plane-touched-requires returns)
+bannerscale-plane-touched-spec = tie.close (tie.spec (λ c κs. search needs) returns)

@@ -14,11 +14,5 @@ returns-2 : tie.Need-returns-2
 unfolding doorAnswer ofBits ofInt
 returns-2 c = sym (ap doorAnswer (c .before .answer2 .given .1))
 
-enum-known-answer : tie.Need-enum-known-answer
-enum-known-answer c = search needs
-
-enum-known-answer-2 : tie.Need-enum-known-answer-2
-enum-known-answer-2 c = search needs
-
 pub told-spec : {M : Type 1} → statement M
-told-spec = tie.close (tie.spec enum-known-answer enum-known-answer-2 returns returns-2)
+told-spec = tie.close (tie.spec (λ c. search needs) (λ c. search needs) returns returns-2)

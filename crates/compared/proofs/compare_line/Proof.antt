@@ -4,30 +4,6 @@ use borrow.Author.Needs.{needs}
 use Rattle.compared.proofs.compare_line.Statement.{statement}
 use Rattle.compared.proofs.compare_line.Tie as tie
 
-line-of-requires : tie.Need-line-of-requires
-line-of-requires c κs = search needs
-
-values-of-requires : tie.Need-values-of-requires
-values-of-requires c κs = search needs
-
-values-of-requires-2 : tie.Need-values-of-requires-2
-values-of-requires-2 c κs = search needs
-
-same-values-requires : tie.Need-same-values-requires
-same-values-requires c κs = search needs
-
-put-where-requires : tie.Need-put-where-requires
-put-where-requires c κs = search needs
-
-is-form-requires : tie.Need-is-form-requires
-is-form-requires c κs = search needs
-
-is-reached-requires : tie.Need-is-reached-requires
-is-reached-requires c κs = search needs
-
-same-length : tie.Need-same-length
-same-length c = search needs
-
 returns : tie.Need-returns
 returns c =
     let form = c .before in
@@ -45,12 +21,12 @@ pub compare-line-spec : {M : Type 1} → statement M
 compare-line-spec =
     tie.close
     (tie.spec
-    line-of-requires
-    values-of-requires
-    values-of-requires-2
-    same-values-requires
-    put-where-requires
-    is-form-requires
-    is-reached-requires
-    same-length
+    (λ c κs. search needs)
+    (λ c κs. search needs)
+    (λ c κs. search needs)
+    (λ c κs. search needs)
+    (λ c κs. search needs)
+    (λ c κs. search needs)
+    (λ c κs. search needs)
+    (λ c. search needs)
     returns)

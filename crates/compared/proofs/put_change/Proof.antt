@@ -9,18 +9,6 @@ use borrow.Author.Needs.{needs}
 use Rattle.compared.proofs.put_change.Statement.{statement}
 use Rattle.compared.proofs.put_change.Tie as tie
 
-put-size-and-requires : tie.Need-put-size-and-requires
-put-size-and-requires c κs = search needs
-
-put-values-requires : tie.Need-put-values-requires
-put-values-requires c κs = search needs
-
-put-answer-requires : tie.Need-put-answer-requires
-put-answer-requires c κs = search needs
-
-same-length : tie.Need-same-length
-same-length c = search needs
-
 returns : tie.Need-returns
 unfolding changeLine
 returns c =
@@ -38,4 +26,4 @@ returns c =
 pub put-change-spec : {M : Type 1} → statement M
 put-change-spec =
     tie.close
-    (tie.spec put-size-and-requires put-values-requires put-answer-requires same-length returns)
+    (tie.spec (λ c κs. search needs) (λ c κs. search needs) (λ c κs. search needs) (λ c. search needs) returns)

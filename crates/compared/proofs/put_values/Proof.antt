@@ -9,21 +9,6 @@ use borrow.Author.Needs.{needs}
 use Rattle.compared.proofs.put_values.Statement.{statement}
 use Rattle.compared.proofs.put_values.Tie as tie
 
-cast-put-size-and : tie.Need-cast-put-size-and
-cast-put-size-and c = search needs
-
-put-size-and-requires : tie.Need-put-size-and-requires
-put-size-and-requires c κs = search needs
-
-put-number-and-requires : tie.Need-put-number-and-requires
-put-number-and-requires c κs = search needs
-
-put-number-and-requires-2 : tie.Need-put-number-and-requires-2
-put-number-and-requires-2 c κs = search needs
-
-same-length : tie.Need-same-length
-same-length c = search needs
-
 returns : tie.Need-returns
 unfolding valuesText
 returns c =
@@ -42,9 +27,9 @@ pub put-values-spec : {M : Type 1} → statement M
 put-values-spec =
     tie.close
     (tie.spec
-    cast-put-size-and
-    put-size-and-requires
-    put-number-and-requires
-    put-number-and-requires-2
-    same-length
+    (λ c. search needs)
+    (λ c κs. search needs)
+    (λ c κs. search needs)
+    (λ c κs. search needs)
+    (λ c. search needs)
     returns)

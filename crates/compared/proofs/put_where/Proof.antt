@@ -9,12 +9,6 @@ returns : tie.Need-returns
 returns c = let a = c .before .before .args in
     (omega arith, rw (← change-none (a .n) (a .v) (a .w) (a .changed) (c .if1 .taken)) (wrote-none _ _))
 
-put-change-requires : tie.Need-put-change-requires
-put-change-requires c κs = search needs
-
-same-length : tie.Need-same-length
-same-length c = search needs
-
 returns-2 : tie.Need-returns-2
 returns-2 c =
     let put = c .before .before in
@@ -23,4 +17,4 @@ returns-2 c =
     (put .put-change .ensures .0, rw (change-some (a .n) (a .v) (a .w) (a .changed) (test .if1 .left)) at (put .put-change .ensures .1))
 
 pub put-where-spec : {M : Type 1} → statement M
-put-where-spec = tie.close (tie.spec returns put-change-requires same-length returns-2)
+put-where-spec = tie.close (tie.spec returns (λ c κs. search needs) (λ c. search needs) returns-2)

@@ -2,7 +2,7 @@
 use mathlib.Core.Path.{_≡_, _∙_}
 use mir.Syntax.{w32}
 use mir.Val.{toZ, ofZ}
-use Rattle.rules.specs.Limits.{sameAs}
+use Rattle.refusals.specs.Tests.{sameAs}
 use Rattle.compared.specs.Compared.{sameValues}
 use borrow.Author.Needs.{needs}
 use Rattle.compared.proofs.same_values.Statement.{statement}
@@ -22,15 +22,9 @@ second-tested c =
     let two : toZ w32 (ofZ w32 (args .w .second)) ≡ args .w .second = search needs in
     c .same-as2 .ensures ∙ rw (one, two)
 
-same-as-requires : tie.Need-same-as-requires
-same-as-requires c κs = search needs
-
-same-as-requires-2 : tie.Need-same-as-requires-2
-same-as-requires-2 c κs = search needs
-
 returns : tie.Need-returns
 unfolding sameValues
 returns c = rw (first-tested (c .before .before .before), second-tested c)
 
 pub same-values-spec : {M : Type 1} → statement M
-same-values-spec = tie.close (tie.spec same-as-requires same-as-requires-2 returns)
+same-values-spec = tie.close (tie.spec (λ c κs. search needs) (λ c κs. search needs) returns)

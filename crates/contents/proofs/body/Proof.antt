@@ -8,9 +8,6 @@ use Rattle.contents.proofs.body.Tie as tie
 mul-start : tie.Need-mul-start
 mul-start c = search start-fits
 
-width-of-requires : tie.Need-width-of-requires
-width-of-requires c κs = search needs
-
 mul-end : tie.Need-mul-end
 mul-end c = search words-fit
 
@@ -19,12 +16,6 @@ mul-end-2 c = search bytes-fit
 
 add-end : tie.Need-add-end
 add-end c = search end-fits
-
-sub-result : tie.Need-sub-result
-sub-result c = search needs
-
-part-result-start : tie.Need-part-result-start
-part-result-start c = search needs
 
 part-result-end : tie.Need-part-result-end
 part-result-end c = search ends-within
@@ -37,11 +28,11 @@ body-spec =
     tie.close
     (tie.spec
     mul-start
-    width-of-requires
+    (λ c κs. search needs)
     mul-end
     mul-end-2
     add-end
-    sub-result
-    part-result-start
+    (λ c. search needs)
+    (λ c. search needs)
     part-result-end
     returns)

@@ -1,15 +1,12 @@
 -- `contents::contents` meets its contract. Assumes nothing.
 use Rattle.contents.specs.Contents.{contentsOf}
-use Rattle.words.proofs.Refusals.{stop, go}
+use Rattle.refusals.proofs.Ladders.{stop, go}
 use Rattle.entries.proofs.Forms.{has-contents}
 use Rattle.contents.proofs.Limits.{long, has-word}
 use Rattle.contents.proofs.OfFault.{by-form}
 use borrow.Author.Needs.{needs}
 use Rattle.contents.proofs.contents.Statement.{statement}
 use Rattle.contents.proofs.contents.Tie as tie
-
-is-sized-requires : tie.Need-is-sized-requires
-is-sized-requires c κs = search needs
 
 returns : tie.Need-returns
 unfolding contentsOf
@@ -36,7 +33,7 @@ pub contents-spec : {M : Type 1} → statement M
 contents-spec =
     tie.close
     (tie.spec
-    is-sized-requires
+    (λ c κs. search needs)
     returns
     is-known-requires
     returns-2

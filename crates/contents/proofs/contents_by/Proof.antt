@@ -1,14 +1,11 @@
 -- `contents::contents_by` meets its contract. Assumes nothing.
 use native.Mathlib.Omega.{arith}
 use Rattle.contents.specs.Contents.{contentsBy}
-use Rattle.words.proofs.Refusals.{stop, go}
+use Rattle.refusals.proofs.Ladders.{stop, go}
 use Rattle.contents.proofs.OfFault.{refused-in, passed-in, number-none, entry-place}
 use borrow.Author.Needs.{needs}
 use Rattle.contents.proofs.contents_by.Statement.{statement}
 use Rattle.contents.proofs.contents_by.Tie as tie
-
-entries-requires : tie.Need-entries-requires
-entries-requires c κs = search needs
 
 add-t6 : tie.Need-add-t6
 add-t6 c = let small = entry-place _ _ (c .before .before .entries .result) (c .before .before .before .before .pre .small) (c .before .before .entries .ensures) in omega (arith, small)
@@ -19,9 +16,6 @@ returns c = search refused-in
 
 ends-sheet-requires : tie.Need-ends-sheet-requires
 ends-sheet-requires c κs = (search needs, number-none (c .before .entries .ensures) (c .if1 .left))
-
-add-t8 : tie.Need-add-t8
-add-t8 c = search needs
 
 returns-2 : tie.Need-returns-2
 unfolding contentsBy
@@ -34,4 +28,4 @@ returns-3 c = search (go, passed-in)
 pub contents-by-spec : {M : Type 1} → statement M
 contents-by-spec =
     tie.close
-    (tie.spec entries-requires add-t6 returns ends-sheet-requires add-t8 returns-2 returns-3)
+    (tie.spec (λ c κs. search needs) add-t6 returns ends-sheet-requires (λ c. search needs) returns-2 returns-3)

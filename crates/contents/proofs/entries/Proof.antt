@@ -4,8 +4,8 @@ use borrow.Author.Needs.{needs}
 use mathlib.Core.Path.{_≡_}
 use native.Mathlib.Nat.{sub-zero}
 use Prim.Native.Nat.{_+_, _*_, _-_, _≤_}
-use Rattle.words.specs.Faults.{firstFault}
-use Rattle.words.proofs.FirstFault.{on, here, end}
+use Rattle.refusals.specs.Faults.{firstFault}
+use Rattle.refusals.proofs.FirstFault.{on, here, end}
 use Rattle.entries.specs.Layout.{mostFirst, mostWidth}
 use Rattle.entries.specs.Entries.{dueAt}
 use Rattle.contents.specs.Contents.{entryFault}

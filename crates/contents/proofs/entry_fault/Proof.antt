@@ -1,5 +1,5 @@
 -- `contents::entry_fault` meets its contract. Assumes nothing.
-use Rattle.words.proofs.Refusals.{stop, go, stop-on, go-past}
+use Rattle.refusals.proofs.Ladders.{stop, go, stop-on, go-past}
 use Rattle.contents.specs.Contents.{entryFault}
 use Rattle.contents.proofs.Limits.{known-below}
 use borrow.Author.Needs.{needs}
@@ -26,28 +26,19 @@ returns-5 : tie.Need-returns-5
 unfolding entryFault
 returns-5 c = search (go, go-past)
 
-names-kind-requires : tie.Need-names-kind-requires
-names-kind-requires c κs = search needs
-
-named-before-requires : tie.Need-named-before-requires
-named-before-requires c κs = search needs
-
 rows-allowed-requires : tie.Need-rows-allowed-requires
 rows-allowed-requires c κs = search (known-below, needs)
-
-starts-at-requires : tie.Need-starts-at-requires
-starts-at-requires c κs = search needs
 
 pub entry-fault-spec : {M : Type 1} → statement M
 entry-fault-spec =
     tie.close
     (tie.spec
-    names-kind-requires
+    (λ c κs. search needs)
     returns
-    named-before-requires
+    (λ c κs. search needs)
     returns-2
     rows-allowed-requires
     returns-3
-    starts-at-requires
+    (λ c κs. search needs)
     returns-4
     returns-5)

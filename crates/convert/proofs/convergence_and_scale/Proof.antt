@@ -2,9 +2,9 @@
 use mathlib.Core.Path.{_≡_, sym, ap, _∙_}
 use mir.Syntax.{w32}
 use mir.Val.{toZ, ofZ}
-use Rattle.grid.specs.Grid.{gridOf}
+use Rattle.convergence.specs.Grid.{gridOf}
 use Rattle.convert.proofs.Checked.{grid-passes, grid-refused, sheet-long}
-use Rattle.figures.proofs.Bits.{both-same}
+use Rattle.rounding.proofs.Bits.{both-same}
 use borrow.Author.Needs.{needs}
 use Rattle.convert.proofs.convergence_and_scale.Statement.{statement}
 use Rattle.convert.proofs.convergence_and_scale.Tie as tie
@@ -20,9 +20,6 @@ returns-2 c =
     let passes = sym (ap (λ v. v .number) (c .before .before .before .check .ensures)) ∙ c .before .before .if1 .left in
     grid-passes _ _ _ _ passes (c .convergence .ensures ∙ both-same (gridOf _) one two)
 
-check-requires : tie.Need-check-requires
-check-requires c κs = search needs
-
 places-of-requires : tie.Need-places-of-requires
 places-of-requires c κs = sheet-long _ (sym (ap (λ v. v .number) (c .before .check .ensures)) ∙ c .if1 .left)
 
@@ -31,4 +28,4 @@ convergence-requires c κs = record { passes = sym (ap (λ v. v .number) (c .bef
 
 pub convergence-and-scale-spec : {M : Type 1} → statement M
 convergence-and-scale-spec =
-    tie.close (tie.spec check-requires returns places-of-requires convergence-requires returns-2)
+    tie.close (tie.spec (λ c κs. search needs) returns places-of-requires convergence-requires returns-2)

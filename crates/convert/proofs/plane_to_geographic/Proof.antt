@@ -4,7 +4,7 @@ use mir.Syntax.{w32}
 use mir.Val.{toZ, ofZ}
 use Rattle.inverse.specs.Inverse.{inverseOf}
 use Rattle.convert.proofs.Checked.{inverse-passes, inverse-refused, sheet-long}
-use Rattle.figures.proofs.Bits.{both-same}
+use Rattle.rounding.proofs.Bits.{both-same}
 use borrow.Author.Needs.{needs}
 use Rattle.convert.proofs.plane_to_geographic.Statement.{statement}
 use Rattle.convert.proofs.plane_to_geographic.Tie as tie
@@ -20,9 +20,6 @@ returns-2 c =
     let passes = sym (ap (λ v. v .number) (c .before .before .before .check .ensures)) ∙ c .before .before .if1 .left in
     inverse-passes _ _ _ _ passes (c .inverse .ensures ∙ both-same (inverseOf _) one two)
 
-check-requires : tie.Need-check-requires
-check-requires c κs = search needs
-
 places-of-requires : tie.Need-places-of-requires
 places-of-requires c κs = sheet-long _ (sym (ap (λ v. v .number) (c .before .check .ensures)) ∙ c .if1 .left)
 
@@ -31,4 +28,4 @@ inverse-requires c κs = record { passes = sym (ap (λ v. v .number) (c .before 
 
 pub plane-to-geographic-spec : {M : Type 1} → statement M
 plane-to-geographic-spec =
-    tie.close (tie.spec check-requires returns places-of-requires inverse-requires returns-2)
+    tie.close (tie.spec (λ c κs. search needs) returns places-of-requires inverse-requires returns-2)

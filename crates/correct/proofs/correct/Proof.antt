@@ -7,7 +7,7 @@ use mir.Val.{toZ, ofZ}
 use Rattle.entries.specs.Layout.{latitude}
 use Rattle.contents.specs.Contents.{numberOf, contentsOf, Placed}
 use Rattle.contents.proofs.Cut.{start-fits, words-fit, bytes-fit, end-fits, ends-within, rows-there}
-use Rattle.bodies.proofs.Parts.{long-enough}
+use Rattle.sheet_check.proofs.Parts.{long-enough}
 use Rattle.correct.specs.Correction.{figures}
 use Rattle.correct.proofs.Judged.{contents-refuse, lent-rows, sheet-number, sheet-after}
 use borrow.Author.Needs.{needs}
@@ -21,12 +21,6 @@ pass c = sym (ap numberOf (c .before .contents .ensures)) ∙ c .if1 .left
 -- the latitude body's place
 placed : (c : tie.After-place-of) → Placed (now (c .before .before .before .before .before .before .args .sheet)) latitude (c .place-of .result)
 placed c = record { contents = pass (c .before .before); place = c .place-of .ensures; least = lit≤ tt; most = lit≤ tt }
-
-contents-requires : tie.Need-contents-requires
-contents-requires c κs = search needs
-
-same-length : tie.Need-same-length
-same-length c = search needs
 
 returns : tie.Need-returns
 returns c = contents-refuse _ _ _ _ (c .before .contents .ensures) (c .if1 .taken)
@@ -46,20 +40,11 @@ mul-end-2 c = bytes-fit _ latitude _ (placed (c .before .before)) _ refl
 add-end : tie.Need-add-end
 add-end c = end-fits _ latitude _ (placed (c .before .before)) _ refl
 
-sub-correct-body : tie.Need-sub-correct-body
-sub-correct-body c = search needs
-
-part-correct-body-start : tie.Need-part-correct-body-start
-part-correct-body-start c = search needs
-
 part-correct-body-end : tie.Need-part-correct-body-end
 part-correct-body-end c = ends-within _ latitude _ (placed (c .before .before)) _ refl
 
 correct-body-requires : tie.Need-correct-body-requires
 correct-body-requires c κs = (rows-there _ latitude _ (placed (c .before .before .before)), lent-rows _ _ (placed (c .before .before .before)))
-
-same-length-2 : tie.Need-same-length-2
-same-length-2 c = search needs
 
 returns-2 : tie.Need-returns-2
 returns-2 c =
@@ -80,17 +65,17 @@ pub correct-spec : {M : Type 1} → statement M
 correct-spec =
     tie.close
     (tie.spec
-    contents-requires
-    same-length
+    (λ c κs. search needs)
+    (λ c. search needs)
     returns
     place-of-requires
     mul-start
     mul-end
     mul-end-2
     add-end
-    sub-correct-body
-    part-correct-body-start
+    (λ c. search needs)
+    (λ c. search needs)
     part-correct-body-end
     correct-body-requires
-    same-length-2
+    (λ c. search needs)
     returns-2)

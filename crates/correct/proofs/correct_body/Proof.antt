@@ -5,7 +5,8 @@ use lib.IntN.{ℤ}
 use denote.Ref.{now}
 use mir.Syntax.{w32}
 use mir.Val.{toZ, ofZ}
-use Rattle.judge.specs.Judge.{namedRow, hasRow, boundBefore, boundAfter, judgedBy}
+use Rattle.minute_row.specs.MinuteRow.{namedRow, hasRow}
+use Rattle.judge.specs.Judge.{boundBefore, boundAfter, judgedBy}
 use Rattle.judge.proofs.Kept.{Kept}
 use Rattle.correct.proofs.Judged.{refused-stays, accepted-keeps, accepted-writes}
 use borrow.Author.Needs.{needs}
@@ -35,12 +36,6 @@ returns-2 c =
     let j = c .before .before .before .before .before .before .before in
     (judged j, accepted-writes _ _ _ _ _ (judged j) (c .before .before .before .before .before .before .if1 .left) _ _ (named (c .before .before .before .before)) (c .before .before .rewrite .ensures))
 
-judge-requires : tie.Need-judge-requires
-judge-requires c κs = search needs
-
-same-length : tie.Need-same-length
-same-length c = search needs
-
 named-row-requires : tie.Need-named-row-requires
 named-row-requires c κs =
     let start = c .before .before .before .before .before in
@@ -54,17 +49,14 @@ rewrite-requires c κs =
     let after = ap (λ (r : ℕ). boundAfter (now (start .args .b)) (start .args .n) r (start .args .f)) (named (c .before)) ∙ k .after in
     (start .pre .1, c .before .named-row .ensures .1, k .range, before, after)
 
-same-length-2 : tie.Need-same-length-2
-same-length-2 c = search needs
-
 pub correct-body-spec : {M : Type 1} → statement M
 correct-body-spec =
     tie.close
     (tie.spec
-    judge-requires
-    same-length
+    (λ c κs. search needs)
+    (λ c. search needs)
     returns
     named-row-requires
     rewrite-requires
-    same-length-2
+    (λ c. search needs)
     returns-2)

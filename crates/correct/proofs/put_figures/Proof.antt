@@ -24,60 +24,21 @@ returns c =
     let v : toZ w32 (ofZ w32 (a .f .v)) ≡ a .f .v = search needs in
     four-put (now (a .b)) (a .i) _ _ _ _ _ _ (a .f) _ _ y0 h v (a-read w₄) (w₁ .put-word .ensures) (w₂ .put-word2 .ensures) (w₃ .put-word3 .ensures) (w₄ .put-word4 .ensures)
 
-mul-put-word : tie.Need-mul-put-word
-mul-put-word c = search needs
-
-add-put-word : tie.Need-add-put-word
-add-put-word c = search needs
-
-put-word-requires : tie.Need-put-word-requires
-put-word-requires c κs = search needs
-
-mul-put-word-2 : tie.Need-mul-put-word-2
-mul-put-word-2 c = search needs
-
-add-put-word-2 : tie.Need-add-put-word-2
-add-put-word-2 c = search needs
-
-put-word-requires-2 : tie.Need-put-word-requires-2
-put-word-requires-2 c κs = search needs
-
-mul-put-word-3 : tie.Need-mul-put-word-3
-mul-put-word-3 c = search needs
-
-add-put-word-3 : tie.Need-add-put-word-3
-add-put-word-3 c = search needs
-
-put-word-requires-3 : tie.Need-put-word-requires-3
-put-word-requires-3 c κs = search needs
-
-mul-put-word-4 : tie.Need-mul-put-word-4
-mul-put-word-4 c = search needs
-
-add-put-word-4 : tie.Need-add-put-word-4
-add-put-word-4 c = search needs
-
-put-word-requires-4 : tie.Need-put-word-requires-4
-put-word-requires-4 c κs = search needs
-
-same-length : tie.Need-same-length
-same-length c = search needs
-
 pub put-figures-spec : {M : Type 1} → statement M
 put-figures-spec =
     tie.close
     (tie.spec
-    mul-put-word
-    add-put-word
-    put-word-requires
-    mul-put-word-2
-    add-put-word-2
-    put-word-requires-2
-    mul-put-word-3
-    add-put-word-3
-    put-word-requires-3
-    mul-put-word-4
-    add-put-word-4
-    put-word-requires-4
-    same-length
+    (λ c. search needs)
+    (λ c. search needs)
+    (λ c κs. search needs)
+    (λ c. search needs)
+    (λ c. search needs)
+    (λ c κs. search needs)
+    (λ c. search needs)
+    (λ c. search needs)
+    (λ c κs. search needs)
+    (λ c. search needs)
+    (λ c. search needs)
+    (λ c κs. search needs)
+    (λ c. search needs)
     returns)

@@ -52,15 +52,6 @@ returns-7 c =
 float-to-bits-bits : tie.Need-float-to-bits-bits
 float-to-bits-bits c = no-nan (x (c .before)) (c .if1 .left)
 
-add-digits : tie.Need-add-digits
-add-digits c = search needs
-
-sub-unit : tie.Need-sub-unit
-sub-unit c = search needs
-
-shl-unit : tie.Need-shl-unit
-shl-unit c = search needs
-
 rem-if5 : tie.Need-rem-if5
 rem-if5 c =
     let s = c .before .before .before in
@@ -89,9 +80,9 @@ whole-of-spec =
     returns-2
     returns-3
     returns-4
-    add-digits
-    sub-unit
-    shl-unit
+    (λ c. search needs)
+    (λ c. search needs)
+    (λ c. search needs)
     rem-if5
     returns-5
     div-size

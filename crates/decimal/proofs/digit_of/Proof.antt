@@ -7,13 +7,10 @@ use Rattle.decimal.proofs.digit_of.Tie as tie
 sub-result : tie.Need-sub-result
 sub-result c = digit-value (c .args .b) (c .pre) .0
 
-cast-result : tie.Need-cast-result
-cast-result c = search needs
-
 returns : tie.Need-returns
 returns c =
     let d = digit-value (c .args .b) (c .pre) in
     (d .1, rw (d .1) (c .pre))
 
 pub digit-of-spec : {M : Type 1} → statement M
-digit-of-spec = tie.close (tie.spec sub-result cast-result returns)
+digit-of-spec = tie.close (tie.spec sub-result (λ c. search needs) returns)

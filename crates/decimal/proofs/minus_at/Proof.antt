@@ -7,9 +7,6 @@ use borrow.Author.Needs.{needs}
 use Rattle.decimal.proofs.minus_at.Statement.{statement}
 use Rattle.decimal.proofs.minus_at.Tie as tie
 
-byte-at-requires : tie.Need-byte-at-requires
-byte-at-requires c κs = search needs
-
 returns : tie.Need-returns
 returns c =
     let a = c .before .before .before .args in
@@ -22,4 +19,4 @@ returns-2 c =
     (no-minus (now (a .s)) (a .at) _ (c .before .byte-at .ensures) (c .if1 .left), omega arith, omega arith)
 
 pub minus-at-spec : {M : Type 1} → statement M
-minus-at-spec = tie.close (tie.spec byte-at-requires returns returns-2)
+minus-at-spec = tie.close (tie.spec (λ c κs. search needs) returns returns-2)

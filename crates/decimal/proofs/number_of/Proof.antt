@@ -6,7 +6,7 @@ use lib.IntN.{pos}
 use lib.Dec.{lit≤}
 use mir.Syntax.{w32, w64}
 use mir.ValLaws.{toZ-pos}
-use Rattle.figures.proofs.Holds.{Holds, held-size, minus-fits, minus, cast-fits-of, cast-of}
+use Rattle.rounding.proofs.Holds.{Holds, held-size, minus-fits, minus, cast-fits-of, cast-of}
 use Rattle.decimal.proofs.NumbersRead.{no-digits, too-large, plus-number, minus-number, minus-held}
 use Rattle.decimal.proofs.number_of.Statement.{statement}
 use Rattle.decimal.proofs.number_of.Tie as tie
@@ -35,15 +35,6 @@ returns-4 c =
 add-if2 : tie.Need-add-if2
 add-if2 c = search needs
 
-cast-t7 : tie.Need-cast-t7
-cast-t7 c = search needs
-
-add-t8 : tie.Need-add-t8
-add-t8 c = search needs
-
-cast-t9 : tie.Need-cast-t9
-cast-t9 c = search needs
-
 sub-t10 : tie.Need-sub-t10
 sub-t10 c = minus-fits (size c) tt
 
@@ -57,10 +48,10 @@ number-of-spec =
     returns
     add-if2
     returns-2
-    cast-t7
+    (λ c. search needs)
     returns-3
-    add-t8
-    cast-t9
+    (λ c. search needs)
+    (λ c. search needs)
     sub-t10
     cast-t11
     returns-4)

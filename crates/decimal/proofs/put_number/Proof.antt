@@ -4,7 +4,7 @@ use native.Mathlib.Omega.{arith}
 use denote.Ref.{now}
 use mir.Syntax.{w32, w64}
 use mir.Val.{toZ, ofZ}
-use Rattle.figures.proofs.Holds.{Holds, held-i32, cast-fits, cast, size-below, unsigned}
+use Rattle.rounding.proofs.Holds.{Holds, held-i32, cast-fits, cast, size-below, unsigned}
 use Rattle.decimal.proofs.Spelling.{after-minus, without-minus}
 use borrow.Author.Needs.{needs}
 use Rattle.decimal.proofs.put_number.Statement.{statement}
@@ -22,15 +22,6 @@ cast-size c = cast-fits (held-i32 (c .before .args .v) (c .before .fits .v .sfit
 size-requires : tie.Need-size-requires
 size-requires c κs = size-below (wide (c .before)) tt
 
-put-byte-requires : tie.Need-put-byte-requires
-put-byte-requires c κs = search needs
-
-put-size-requires : tie.Need-put-size-requires
-put-size-requires c κs = search needs
-
-same-length : tie.Need-same-length
-same-length c = search needs
-
 returns : tie.Need-returns
 returns c =
     let taken = c .before .before .before .before .before .before .before .before in
@@ -40,12 +31,6 @@ returns c =
     let done =
     after-minus (now (start .args .out)) _ (start .args .at) _ _ (start .args .v) _ _ (rw (value start) at (taken .if1 .taken)) (taken .before .size .ensures ∙ unsigned (wide start)) (byte .1) (put .1) in
     (omega (arith, put .0, byte .0), done)
-
-put-size-requires-2 : tie.Need-put-size-requires-2
-put-size-requires-2 c κs = search needs
-
-same-length-2 : tie.Need-same-length-2
-same-length-2 c = search needs
 
 returns-2 : tie.Need-returns-2
 returns-2 c =
@@ -61,10 +46,10 @@ put-number-spec =
     (tie.spec
     cast-size
     size-requires
-    put-byte-requires
-    put-size-requires
-    same-length
+    (λ c κs. search needs)
+    (λ c κs. search needs)
+    (λ c. search needs)
     returns
-    put-size-requires-2
-    same-length-2
+    (λ c κs. search needs)
+    (λ c. search needs)
     returns-2)

@@ -2,7 +2,7 @@
 use mathlib.Core.Path.{_≡_}
 use mir.Syntax.{w32}
 use mir.Val.{toZ, ofZ}
-use Rattle.bodies.proofs.Known.{latitude-placed}
+use Rattle.sheet_check.proofs.Known.{latitude-placed}
 use Rattle.contents.proofs.Cut.{rows-there}
 use Rattle.tables.proofs.Parts.{place-rows}
 use Rattle.differing.proofs.OneRow.{of-sheets}

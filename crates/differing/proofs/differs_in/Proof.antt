@@ -2,14 +2,11 @@
 use mathlib.Core.Path.{_≡_}
 use mir.Syntax.{w32}
 use mir.Val.{toZ, ofZ}
-use Rattle.words.proofs.Refusals.{kept}
+use Rattle.refusals.proofs.Ladders.{kept}
 use Rattle.differing.proofs.OneRow.{no-row, of-row}
 use borrow.Author.Needs.{needs}
 use Rattle.differing.proofs.differs_in.Statement.{statement}
 use Rattle.differing.proofs.differs_in.Tie as tie
-
-has-row-requires : tie.Need-has-row-requires
-has-row-requires c κs = search needs
 
 returns : tie.Need-returns
 returns c =
@@ -20,9 +17,6 @@ returns c =
 named-row-requires : tie.Need-named-row-requires
 named-row-requires c κs = (c .before .before .before .before .pre .0, c .before .before .before .before .pre .1, kept _ _ (c .before .has-row .ensures) (c .if1 .left))
 
-row-differs-requires : tie.Need-row-differs-requires
-row-differs-requires c κs = search needs
-
 returns-2 : tie.Need-returns-2
 returns-2 c =
     let test = c .before .before in
@@ -32,4 +26,4 @@ returns-2 c =
 
 pub differs-in-spec : {M : Type 1} → statement M
 differs-in-spec =
-    tie.close (tie.spec has-row-requires returns named-row-requires row-differs-requires returns-2)
+    tie.close (tie.spec (λ c κs. search needs) returns named-row-requires (λ c κs. search needs) returns-2)

@@ -3,7 +3,7 @@ use mathlib.Core.Path.{_≡_, ap, _∙_}
 use denote.Ref.{now}
 use mir.Syntax.{w32}
 use mir.Val.{toZ, ofZ}
-use Rattle.judge.specs.Judge.{namedRow, hasRow}
+use Rattle.minute_row.specs.MinuteRow.{namedRow, hasRow}
 use Rattle.differing.proofs.OneRow.{not-there, there, as-figures}
 use borrow.Author.Needs.{needs}
 use Rattle.differing.proofs.row_differs.Statement.{statement}
@@ -15,15 +15,6 @@ minute-is c = search needs
 found : (c : tie.After-has-row) → let args = c .before .before .before .before .args in c .has-row .result ≡ hasRow (now (args .c)) (args .m) (c .before .word .result)
 found c = c .has-row .ensures ∙ ap (hasRow _ _) (minute-is (c .before))
 
-mul-word : tie.Need-mul-word
-mul-word c = search needs
-
-word-requires : tie.Need-word-requires
-word-requires c κs = search needs
-
-has-row-requires : tie.Need-has-row-requires
-has-row-requires c κs = search needs
-
 returns : tie.Need-returns
 returns c = not-there _ _ _ _ _ (c .before .before .word .ensures) _ (found (c .before)) (c .if1 .taken)
 
@@ -32,15 +23,6 @@ named-row-requires c κs =
     let read = c .before .before in
     let start = read .before .before .before in
     (start .pre .1, start .pre .2, rw (minute-is read) (there _ _ _ _ _ (read .word .ensures) _ (found (c .before)) (c .if1 .left)))
-
-figures-at-requires : tie.Need-figures-at-requires
-figures-at-requires c κs = search needs
-
-figures-at-requires-2 : tie.Need-figures-at-requires-2
-figures-at-requires-2 c κs = search needs
-
-same-figures-requires : tie.Need-same-figures-requires
-same-figures-requires c κs = search needs
 
 returns-2 : tie.Need-returns-2
 returns-2 c =
@@ -56,12 +38,12 @@ pub row-differs-spec : {M : Type 1} → statement M
 row-differs-spec =
     tie.close
     (tie.spec
-    mul-word
-    word-requires
-    has-row-requires
+    (λ c. search needs)
+    (λ c κs. search needs)
+    (λ c κs. search needs)
     returns
     named-row-requires
-    figures-at-requires
-    figures-at-requires-2
-    same-figures-requires
+    (λ c κs. search needs)
+    (λ c κs. search needs)
+    (λ c κs. search needs)
     returns-2)

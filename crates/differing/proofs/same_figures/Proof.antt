@@ -2,7 +2,7 @@
 use mathlib.Core.Path.{_≡_, _∙_}
 use mir.Syntax.{w32}
 use mir.Val.{toZ, ofZ}
-use Rattle.rules.specs.Limits.{sameAs}
+use Rattle.refusals.specs.Tests.{sameAs}
 use Rattle.differing.specs.Differing.{sameFigures}
 use borrow.Author.Needs.{needs}
 use Rattle.differing.proofs.same_figures.Statement.{statement}
@@ -36,18 +36,6 @@ a-tested c =
     let second : toZ w32 (ofZ w32 (args .g .a)) ≡ args .g .a = search needs in
     c .same-as4 .ensures ∙ rw (first, second)
 
-same-as-requires : tie.Need-same-as-requires
-same-as-requires c κs = search needs
-
-same-as-requires-2 : tie.Need-same-as-requires-2
-same-as-requires-2 c κs = search needs
-
-same-as-requires-3 : tie.Need-same-as-requires-3
-same-as-requires-3 c κs = search needs
-
-same-as-requires-4 : tie.Need-same-as-requires-4
-same-as-requires-4 c κs = search needs
-
 returns : tie.Need-returns
 unfolding sameFigures
 returns c = rw (y0-tested (c .before .before .before .before .before .before .before .before .before), h-tested (c .before .before .before .before .before .before), v-tested (c .before .before .before), a-tested c)
@@ -55,4 +43,4 @@ returns c = rw (y0-tested (c .before .before .before .before .before .before .be
 pub same-figures-spec : {M : Type 1} → statement M
 same-figures-spec =
     tie.close
-    (tie.spec same-as-requires same-as-requires-2 same-as-requires-3 same-as-requires-4 returns)
+    (tie.spec (λ c κs. search needs) (λ c κs. search needs) (λ c κs. search needs) (λ c κs. search needs) returns)

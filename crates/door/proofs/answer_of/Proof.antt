@@ -17,11 +17,5 @@ returns-2 c =
     let two : toZ w32 (ofZ w32 (start .args .b)) ≡ start .args .b = search needs in
     rw (one, two) (answers _ _ _ _ (c .before .before .if1 .left))
 
-int-to-float-t6 : tie.Need-int-to-float-t6
-int-to-float-t6 c = search needs
-
-int-to-float-t7 : tie.Need-int-to-float-t7
-int-to-float-t7 c = search needs
-
 pub answer-of-spec : {M : Type 1} → statement M
-answer-of-spec = tie.close (tie.spec returns int-to-float-t6 int-to-float-t7 returns-2)
+answer-of-spec = tie.close (tie.spec returns (λ c. search needs) (λ c. search needs) returns-2)

@@ -4,7 +4,7 @@ use mir.Syntax.{w32}
 use mir.Val.{toZ, ofZ}
 use borrow.Author.Needs.{needs}
 use Rattle.convert.specs.Conversions.{convergenceAndScale}
-use Rattle.figures.proofs.Bits.{both-same}
+use Rattle.rounding.proofs.Bits.{both-same}
 use Rattle.door.specs.Door.{answerOf, gridAnswer}
 use Rattle.door.proofs.Ways.{before, after}
 use Rattle.door.proofs.convergence_and_scale.Statement.{statement}
@@ -27,29 +27,14 @@ returns-2 c =
     let told = c .answer-of .ensures ∙ both-same (λ a b. answerOf (r .number) a b (r .half)) one two in
     after (convergenceAndScale _) gridAnswer _ _ (sym (pair .before .before .counts-of .ensures) ∙ pair .x .given .1) a-is b-is (worked .convergence-and-scale .ensures) told
 
-counts-of-requires : tie.Need-counts-of-requires
-counts-of-requires c κs = search needs
-
-enum-known-x : tie.Need-enum-known-x
-enum-known-x c = search needs
-
-enum-told : tie.Need-enum-told
-enum-told c = search needs
-
-convergence-and-scale-requires : tie.Need-convergence-and-scale-requires
-convergence-and-scale-requires c κs = search needs
-
-answer-of-requires : tie.Need-answer-of-requires
-answer-of-requires c κs = search needs
-
 pub convergence-and-scale-spec : {M : Type 1} → statement M
 convergence-and-scale-spec =
     tie.close
     (tie.spec
-    counts-of-requires
-    enum-known-x
-    enum-told
+    (λ c κs. search needs)
+    (λ c. search needs)
+    (λ c. search needs)
     returns
-    convergence-and-scale-requires
-    answer-of-requires
+    (λ c κs. search needs)
+    (λ c κs. search needs)
     returns-2)

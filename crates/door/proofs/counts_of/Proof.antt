@@ -21,34 +21,16 @@ returns-3 c =
     let two : toZ w32 (ofZ w32 (b .b .given .0 .0)) ≡ b .b .given .0 .0 = search needs in
     rw (one, two) (both-counts _ _ _ _ (sym (a .before .before .whole-of .ensures) ∙ a .a .given .1) (sym (b .before .before .whole-of2 .ensures) ∙ b .b .given .1))
 
-whole-of-requires : tie.Need-whole-of-requires
-whole-of-requires c κs = search needs
-
-enum-known-a : tie.Need-enum-known-a
-enum-known-a c = search needs
-
-enum-told : tie.Need-enum-told
-enum-told c = search needs
-
-whole-of-requires-2 : tie.Need-whole-of-requires-2
-whole-of-requires-2 c κs = search needs
-
-enum-known-b : tie.Need-enum-known-b
-enum-known-b c = search needs
-
-enum-told-2 : tie.Need-enum-told-2
-enum-told-2 c = search needs
-
 pub counts-of-spec : {M : Type 1} → statement M
 counts-of-spec =
     tie.close
     (tie.spec
-    whole-of-requires
-    enum-known-a
-    enum-told
+    (λ c κs. search needs)
+    (λ c. search needs)
+    (λ c. search needs)
     returns
-    whole-of-requires-2
-    enum-known-b
-    enum-told-2
+    (λ c κs. search needs)
+    (λ c. search needs)
+    (λ c. search needs)
     returns-2
     returns-3)

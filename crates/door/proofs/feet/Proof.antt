@@ -8,8 +8,5 @@ returns : tie.Need-returns
 unfolding div ofInt ofBits
 returns c = search needs
 
-int-to-float-result : tie.Need-int-to-float-result
-int-to-float-result c = search needs
-
 pub feet-spec : {M : Type 1} → statement M
-feet-spec = tie.close (tie.spec int-to-float-result returns)
+feet-spec = tie.close (tie.spec (λ c. search needs) returns)

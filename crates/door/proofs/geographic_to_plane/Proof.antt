@@ -4,7 +4,7 @@ use mir.Syntax.{w32}
 use mir.Val.{toZ, ofZ}
 use borrow.Author.Needs.{needs}
 use Rattle.convert.specs.Conversions.{geographicToPlane}
-use Rattle.figures.proofs.Bits.{both-same}
+use Rattle.rounding.proofs.Bits.{both-same}
 use Rattle.door.specs.Door.{answerOf, planeAnswer}
 use Rattle.door.proofs.Ways.{before, after}
 use Rattle.door.proofs.geographic_to_plane.Statement.{statement}
@@ -27,29 +27,14 @@ returns-2 c =
     let told = c .answer-of .ensures ∙ both-same (λ a b. answerOf (r .number) a b (r .half)) one two in
     after (geographicToPlane _) planeAnswer _ _ (sym (pair .before .before .counts-of .ensures) ∙ pair .latitude .given .1) a-is b-is (worked .geographic-to-plane .ensures) told
 
-counts-of-requires : tie.Need-counts-of-requires
-counts-of-requires c κs = search needs
-
-enum-known-latitude : tie.Need-enum-known-latitude
-enum-known-latitude c = search needs
-
-enum-told : tie.Need-enum-told
-enum-told c = search needs
-
-geographic-to-plane-requires : tie.Need-geographic-to-plane-requires
-geographic-to-plane-requires c κs = search needs
-
-answer-of-requires : tie.Need-answer-of-requires
-answer-of-requires c κs = search needs
-
 pub geographic-to-plane-spec : {M : Type 1} → statement M
 geographic-to-plane-spec =
     tie.close
     (tie.spec
-    counts-of-requires
-    enum-known-latitude
-    enum-told
+    (λ c κs. search needs)
+    (λ c. search needs)
+    (λ c. search needs)
     returns
-    geographic-to-plane-requires
-    answer-of-requires
+    (λ c κs. search needs)
+    (λ c κs. search needs)
     returns-2)

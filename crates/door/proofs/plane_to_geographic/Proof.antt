@@ -4,7 +4,7 @@ use mir.Syntax.{w32}
 use mir.Val.{toZ, ofZ}
 use borrow.Author.Needs.{needs}
 use Rattle.convert.specs.Conversions.{planeToGeographic}
-use Rattle.figures.proofs.Bits.{both-same}
+use Rattle.rounding.proofs.Bits.{both-same}
 use Rattle.door.specs.Door.{answerOf, geographicAnswer}
 use Rattle.door.proofs.Ways.{before, after}
 use Rattle.door.proofs.plane_to_geographic.Statement.{statement}
@@ -27,29 +27,14 @@ returns-2 c =
     let told = c .answer-of .ensures ∙ both-same (λ a b. answerOf (r .number) a b (r .half)) one two in
     after (planeToGeographic _) geographicAnswer _ _ (sym (pair .before .before .counts-of .ensures) ∙ pair .x .given .1) a-is b-is (worked .plane-to-geographic .ensures) told
 
-counts-of-requires : tie.Need-counts-of-requires
-counts-of-requires c κs = search needs
-
-enum-known-x : tie.Need-enum-known-x
-enum-known-x c = search needs
-
-enum-told : tie.Need-enum-told
-enum-told c = search needs
-
-plane-to-geographic-requires : tie.Need-plane-to-geographic-requires
-plane-to-geographic-requires c κs = search needs
-
-answer-of-requires : tie.Need-answer-of-requires
-answer-of-requires c κs = search needs
-
 pub plane-to-geographic-spec : {M : Type 1} → statement M
 plane-to-geographic-spec =
     tie.close
     (tie.spec
-    counts-of-requires
-    enum-known-x
-    enum-told
+    (λ c κs. search needs)
+    (λ c. search needs)
+    (λ c. search needs)
     returns
-    plane-to-geographic-requires
-    answer-of-requires
+    (λ c κs. search needs)
+    (λ c κs. search needs)
     returns-2)

@@ -4,21 +4,18 @@ use borrow.Author.Needs.{needs}
 use Rattle.entries.proofs.entry_word.Statement.{statement}
 use Rattle.entries.proofs.entry_word.Tie as tie
 
-mul-size-at : tie.Need-mul-size-at
-mul-size-at c = search entry-fits
+mul-count-at : tie.Need-mul-count-at
+mul-count-at c = search entry-fits
 
-add-size-at : tie.Need-add-size-at
-add-size-at c = search next-fits
+add-count-at : tie.Need-add-count-at
+add-count-at c = search next-fits
 
-add-size-at-2 : tie.Need-add-size-at-2
-add-size-at-2 c = search word-fits
+add-count-at-2 : tie.Need-add-count-at-2
+add-count-at-2 c = search word-fits
 
-size-at-requires : tie.Need-size-at-requires
-size-at-requires c κs = search word-within
-
-returns : tie.Need-returns
-returns c = search needs
+count-at-requires : tie.Need-count-at-requires
+count-at-requires c κs = search word-within
 
 pub entry-word-spec : {M : Type 1} → statement M
 entry-word-spec =
-    tie.close (tie.spec mul-size-at add-size-at add-size-at-2 size-at-requires returns)
+    tie.close (tie.spec mul-count-at add-count-at add-count-at-2 count-at-requires (λ c. search needs))

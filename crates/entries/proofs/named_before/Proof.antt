@@ -7,11 +7,5 @@ use Rattle.entries.proofs.named_before.Tie as tie
 returns : tie.Need-returns
 returns c = c .is-named .ensures ∙ rw (c .before .kind-at .ensures .0)
 
-kind-at-requires : tie.Need-kind-at-requires
-kind-at-requires c κs = search needs
-
-is-named-requires : tie.Need-is-named-requires
-is-named-requires c κs = search needs
-
 pub named-before-spec : {M : Type 1} → statement M
-named-before-spec = tie.close (tie.spec kind-at-requires is-named-requires returns)
+named-before-spec = tie.close (tie.spec (λ c κs. search needs) (λ c κs. search needs) returns)

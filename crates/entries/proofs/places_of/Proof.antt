@@ -16,32 +16,14 @@ returns c =
       c .place-of6 .ensures,
     )
 
-place-of-requires : tie.Need-place-of-requires
-place-of-requires c κs = search needs
-
-place-of-requires-2 : tie.Need-place-of-requires-2
-place-of-requires-2 c κs = search needs
-
-place-of-requires-3 : tie.Need-place-of-requires-3
-place-of-requires-3 c κs = search needs
-
-place-of-requires-4 : tie.Need-place-of-requires-4
-place-of-requires-4 c κs = search needs
-
-place-of-requires-5 : tie.Need-place-of-requires-5
-place-of-requires-5 c κs = search needs
-
-place-of-requires-6 : tie.Need-place-of-requires-6
-place-of-requires-6 c κs = search needs
-
 pub places-of-spec : {M : Type 1} → statement M
 places-of-spec =
     tie.close
     (tie.spec
-    place-of-requires
-    place-of-requires-2
-    place-of-requires-3
-    place-of-requires-4
-    place-of-requires-5
-    place-of-requires-6
+    (λ c κs. search needs)
+    (λ c κs. search needs)
+    (λ c κs. search needs)
+    (λ c κs. search needs)
+    (λ c κs. search needs)
+    (λ c κs. search needs)
     returns)

@@ -1,5 +1,5 @@
 -- `extent::from_first` meets its contract. Assumes nothing.
-use Rattle.figures.proofs.Holds.{difference, difference-fits}
+use Rattle.rounding.proofs.Holds.{difference, difference-fits}
 use Rattle.tables.proofs.Origins.{first-held}
 use Rattle.extent.specs.Extent.{fromFirst}
 use Rattle.extent.proofs.Points.{wide, wide-fits}

@@ -1,5 +1,5 @@
 -- `extent::l_of` meets its contract. Assumes nothing.
-use Rattle.figures.proofs.Holds.{difference, difference-fits}
+use Rattle.rounding.proofs.Holds.{difference, difference-fits}
 use Rattle.tables.proofs.Origins.{central-held}
 use Rattle.extent.specs.Extent.{lOf}
 use Rattle.extent.proofs.Points.{wide, wide-fits, answered}

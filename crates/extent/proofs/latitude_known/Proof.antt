@@ -8,9 +8,6 @@ use borrow.Author.Needs.{needs}
 use Rattle.extent.proofs.latitude_known.Statement.{statement}
 use Rattle.extent.proofs.latitude_known.Tie as tie
 
-from-first-requires : tie.Need-from-first-requires
-from-first-requires c κs = search needs
-
 within-rows-requires : tie.Need-within-rows-requires
 within-rows-requires c κs = search (count-one, minutes-few, needs)
 
@@ -22,4 +19,4 @@ returns c =
     minutes-is _ _ (c .before .before .before .pre .0) _ _ _ (t ∙ c .before .from-first .ensures ∙ ap (fromFirst _) north) (c .within-rows .ensures)
 
 pub latitude-known-spec : {M : Type 1} → statement M
-latitude-known-spec = tie.close (tie.spec from-first-requires within-rows-requires returns)
+latitude-known-spec = tie.close (tie.spec (λ c κs. search needs) within-rows-requires returns)

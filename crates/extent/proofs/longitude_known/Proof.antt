@@ -19,9 +19,6 @@ returns c =
     let size = size-tested z (le-trans (c .before .before .l-of .ensures .1) (lit≤ tt)) (c .before .size .ensures) (sizeKnown _) (c .size-known .ensures) in
     rw (west, size, c .before .before .l-of .ensures .0 ∙ ap (lOf _) west)
 
-l-of-requires : tie.Need-l-of-requires
-l-of-requires c κs = search needs
-
 size-requires : tie.Need-size-requires
 size-requires c κs =
     let z : toZ w64 (ofZ w64 (c .l-of .result)) ≡ c .l-of .result = search needs in
@@ -32,9 +29,6 @@ cast-size-known c =
     let z : toZ w64 (ofZ w64 (c .before .l-of .result)) ≡ c .before .l-of .result = search needs in
     size-signed z (le-trans (c .before .l-of .ensures .1) (lit≤ tt)) (c .size .ensures)
 
-size-known-requires : tie.Need-size-known-requires
-size-known-requires c κs = search needs
-
 pub longitude-known-spec : {M : Type 1} → statement M
 longitude-known-spec =
-    tie.close (tie.spec l-of-requires size-requires cast-size-known size-known-requires returns)
+    tie.close (tie.spec (λ c κs. search needs) size-requires cast-size-known (λ c κs. search needs) returns)

@@ -1,7 +1,7 @@
 -- `extent::northing_known` meets its contract. Assumes nothing.
 use mathlib.Core.Path.{_∙_}
 use Rattle.extent.specs.Extent.{northingKnown}
-use Rattle.bodies.proofs.Known.{northing-placed}
+use Rattle.sheet_check.proofs.Known.{northing-placed}
 use Rattle.extent.proofs.Points.{wide, wide-fits}
 use Rattle.extent.proofs.northing_known.Statement.{statement}
 use Rattle.extent.proofs.northing_known.Tie as tie

@@ -3,7 +3,7 @@ use mathlib.Core.Path.{_≡_, _∙_}
 use mir.Syntax.{w64}
 use mir.Val.{toZ, ofZ}
 use Rattle.extent.specs.Extent.{sizeKnown}
-use Rattle.bodies.proofs.Known.{longitude-placed}
+use Rattle.sheet_check.proofs.Known.{longitude-placed}
 use borrow.Author.Needs.{needs}
 use Rattle.extent.proofs.size_known.Statement.{statement}
 use Rattle.extent.proofs.size_known.Tie as tie

@@ -1,5 +1,5 @@
 -- `extent::x_prime` meets its contract. Assumes nothing.
-use Rattle.figures.proofs.Holds.{difference, difference-fits}
+use Rattle.rounding.proofs.Holds.{difference, difference-fits}
 use Rattle.tables.proofs.Origins.{easting-held}
 use Rattle.extent.specs.Extent.{xPrime}
 use Rattle.extent.proofs.Points.{wide, wide-fits, answered}

@@ -9,21 +9,6 @@ use Rattle.fields.proofs.Fields.{field-is}
 use Rattle.fields.proofs.field_at.Statement.{statement}
 use Rattle.fields.proofs.field_at.Tie as tie
 
-number-at-requires : tie.Need-number-at-requires
-number-at-requires c κs = search needs
-
-add-byte-at : tie.Need-add-byte-at
-add-byte-at c = search needs
-
-byte-at-requires : tie.Need-byte-at-requires
-byte-at-requires c κs = search needs
-
-add-t10 : tie.Need-add-t10
-add-t10 c = search needs
-
-add-t11 : tie.Need-add-t11
-add-t11 c = search needs
-
 returns : tie.Need-returns
 returns c =
     let n = c .before .before .number-at in
@@ -33,4 +18,4 @@ returns c =
 
 pub field-at-spec : {M : Type 1} → statement M
 field-at-spec =
-    tie.close (tie.spec number-at-requires add-byte-at byte-at-requires add-t10 add-t11 returns)
+    tie.close (tie.spec (λ c κs. search needs) (λ c. search needs) (λ c κs. search needs) (λ c. search needs) (λ c. search needs) returns)

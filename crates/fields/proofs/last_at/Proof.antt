@@ -8,15 +8,6 @@ use Rattle.fields.proofs.Fields.{last-is}
 use Rattle.fields.proofs.last_at.Statement.{statement}
 use Rattle.fields.proofs.last_at.Tie as tie
 
-number-at-requires : tie.Need-number-at-requires
-number-at-requires c κs = search needs
-
-add-t6 : tie.Need-add-t6
-add-t6 c = search needs
-
-add-t10 : tie.Need-add-t10
-add-t10 c = search needs
-
 returns : tie.Need-returns
 returns c =
     let n = c .before .number-at in
@@ -25,4 +16,4 @@ returns c =
     rw value (last-is (now (start .args .line)) (start .args .at) _ (n .ensures .0))
 
 pub last-at-spec : {M : Type 1} → statement M
-last-at-spec = tie.close (tie.spec number-at-requires add-t6 add-t10 returns)
+last-at-spec = tie.close (tie.spec (λ c κs. search needs) (λ c. search needs) (λ c. search needs) returns)

@@ -19,21 +19,6 @@ value c = search needs
 stays : (c : tie.After-read) → let start = c .before .before .before in take (start .args .from) (putMid (start .args .from) (length (now (start .args .buf)) - start .args .from) (now (start .args .buf)) (c .read .last .1 .0)) ≡ take (start .args .from) (now (start .args .buf))
 stays c = let start = c .before .before .before in take-put (start .args .from) (length (now (start .args .buf)) - start .args .from) (now (start .args .buf)) (c .read .last .1 .0) (start .pre)
 
-sub-read : tie.Need-sub-read
-sub-read c = search needs
-
-part-read-start : tie.Need-part-read-start
-part-read-start c = search needs
-
-part-read-end : tie.Need-part-read-end
-part-read-end c = search needs
-
-read-requires : tie.Need-read-requires
-read-requires c κs = search needs
-
-same-length : tie.Need-same-length
-same-length c = search needs
-
 returns : tie.Need-returns
 returns c = (search needs, stays (c .before .before .before), λ f. refl)
 
@@ -58,11 +43,11 @@ pub read-once-spec : {M : Type 1} → statement M
 read-once-spec =
     tie.close
     (tie.spec
-    sub-read
-    part-read-start
-    part-read-end
-    read-requires
-    same-length
+    (λ c. search needs)
+    (λ c. search needs)
+    (λ c. search needs)
+    (λ c κs. search needs)
+    (λ c. search needs)
     returns
     cast-t7
     same-length-2

@@ -2,7 +2,7 @@
 use mathlib.Core.Path.{_≡_, _∙_}
 use mir.Syntax.{w32}
 use mir.Val.{toZ, ofZ}
-use Rattle.figures.proofs.Bits.{both-same}
+use Rattle.rounding.proofs.Bits.{both-same}
 use Rattle.forward.specs.Forward.{forwardOf}
 use borrow.Author.Needs.{needs}
 use Rattle.forward.proofs.forward.Statement.{statement}
@@ -15,11 +15,5 @@ returns c =
     let west : toZ w32 (ofZ w32 (start .args .longitude)) ≡ start .args .longitude = search needs in
     c .forward-from .ensures ∙ both-same (forwardOf _) north west
 
-origin-of-requires : tie.Need-origin-of-requires
-origin-of-requires c κs = search needs
-
-forward-from-requires : tie.Need-forward-from-requires
-forward-from-requires c κs = search needs
-
 pub forward-spec : {M : Type 1} → statement M
-forward-spec = tie.close (tie.spec origin-of-requires forward-from-requires returns)
+forward-spec = tie.close (tie.spec (λ c κs. search needs) (λ c κs. search needs) returns)

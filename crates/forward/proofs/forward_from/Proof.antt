@@ -3,10 +3,10 @@ use mathlib.Core.Path.{_≡_, ap, _∙_}
 use denote.Ref.{now}
 use mir.Syntax.{w32}
 use mir.Val.{toZ, ofZ}
-use Rattle.words.proofs.Refusals.{stop, go, kept}
+use Rattle.refusals.proofs.Ladders.{stop, go, kept}
 use Rattle.extent.specs.Extent.{latitudeKnown, longitudeKnown}
 use Rattle.forward.specs.Forward.{planeAt, forwardOf}
-use Rattle.figures.proofs.Bits.{both-same}
+use Rattle.rounding.proofs.Bits.{both-same}
 use borrow.Author.Needs.{needs}
 use Rattle.forward.proofs.forward_from.Statement.{statement}
 use Rattle.forward.proofs.forward_from.Tie as tie
@@ -40,12 +40,6 @@ returns-3 c =
     go _ _ _ _ _ (latitude-is (c .before .before .before .before)) (c .before .before .before .if1 .left)
     (go _ _ _ _ _ (longitude-is (c .before .before)) (c .before .if2 .left) point)
 
-latitude-known-requires : tie.Need-latitude-known-requires
-latitude-known-requires c κs = search needs
-
-longitude-known-requires : tie.Need-longitude-known-requires
-longitude-known-requires c κs = search needs
-
 plane-at-requires : tie.Need-plane-at-requires
 plane-at-requires c κs =
     let start = c .before .before .before .before .before in
@@ -55,9 +49,9 @@ pub forward-from-spec : {M : Type 1} → statement M
 forward-from-spec =
     tie.close
     (tie.spec
-    latitude-known-requires
+    (λ c κs. search needs)
     returns
-    longitude-known-requires
+    (λ c κs. search needs)
     returns-2
     plane-at-requires
     returns-3)

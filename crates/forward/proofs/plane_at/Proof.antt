@@ -1,6 +1,5 @@
 -- `forward::plane_at` meets its contract. Assumes nothing.
 use mathlib.Core.Path.{_≡_, ap, _∙_}
-use Prim.Native.Nat.{_-_}
 use native.Mathlib.Omega.{arith}
 use denote.Ref.{now}
 use mir.Syntax.{w32, w64}
@@ -8,12 +7,12 @@ use mir.Val.{toZ, ofZ}
 use Rattle.entries.specs.Layout.{longitude}
 use Rattle.entries.specs.Entries.{Within}
 use Rattle.tables.specs.Figures.{bAt, bHalf}
-use Rattle.figures.proofs.Holds.{Holds, cast, cast-fits}
+use Rattle.rounding.proofs.Holds.{Holds, cast, cast-fits}
 use Rattle.tables.proofs.Answers.{size-is, size-fits}
 use Rattle.extent.specs.Extent.{fromFirst, lOf}
 use Rattle.extent.proofs.Reach.{latitude-reach, latitude-small, latitude-within, longitude-within}
 use Rattle.forward.proofs.Eastings.{plane-worked}
-use Rattle.figures.proofs.Bits.{bits-is, bits-below}
+use Rattle.rounding.proofs.Bits.{bits-is, bits-below}
 use borrow.Author.Needs.{needs}
 use Rattle.forward.proofs.plane_at.Statement.{statement}
 use Rattle.forward.proofs.plane_at.Tie as tie

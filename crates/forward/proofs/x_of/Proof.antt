@@ -6,15 +6,15 @@ use lib.IntN.{natAbs}
 use denote.Ref.{now}
 use mir.Syntax.{w64}
 use mir.Val.{toZ, ofZ}
-use Rattle.figures.specs.Nearest.{withSign}
-use Rattle.figures.proofs.Sizes.{size-withSign}
-use Rattle.figures.proofs.Holds.{Holds, sum, sum-fits}
+use Rattle.rounding.specs.Nearest.{withSign}
+use Rattle.rounding.proofs.Sizes.{size-withSign}
+use Rattle.rounding.proofs.Holds.{Holds, sum, sum-fits}
 use Rattle.extent.proofs.Points.{size-small}
 use Rattle.tables.specs.Figures.{falseEasting}
 use Rattle.tables.proofs.Origins.{easting-held}
 use Rattle.forward.specs.Forward.{xSize, xOf, xHalf}
 use Rattle.forward.proofs.Eastings.{sign-worked, s-most, x-size}
-use Rattle.figures.proofs.Bits.{bits-hold}
+use Rattle.rounding.proofs.Bits.{bits-hold}
 use borrow.Author.Needs.{needs}
 use Rattle.forward.proofs.x_of.Statement.{statement}
 use Rattle.forward.proofs.x_of.Tie as tie

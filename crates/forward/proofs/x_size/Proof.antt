@@ -37,12 +37,6 @@ returns c =
     let x = read-signed-is (x-is worked) (x-between _ (p .0 .passes) _ (p .1) _ (p .2) (x-is worked)) tt in
     (x .0, x .1, x-marked _ _ _ (h .ensures .0) (a-is read) (a .ensures .0) (b-is read) (p .3) (h .ensures .3) (a .ensures .2) (p .4) (worked .size-of-x .ensures .1))
 
-h-at-requires : tie.Need-h-at-requires
-h-at-requires c κs = search needs
-
-a-at-requires : tie.Need-a-at-requires
-a-at-requires c κs = search needs
-
 size-of-x-requires : tie.Need-size-of-x-requires
 size-of-x-requires c κs =
     let read = c .before .before in
@@ -63,4 +57,4 @@ cast-t9 c =
     read-signed (x-is worked) (x-between _ (p .0 .passes) _ (p .1) _ (p .2) (x-is worked)) tt
 
 pub x-size-spec : {M : Type 1} → statement M
-x-size-spec = tie.close (tie.spec h-at-requires a-at-requires size-of-x-requires cast-t9 returns)
+x-size-spec = tie.close (tie.spec (λ c κs. search needs) (λ c κs. search needs) size-of-x-requires cast-t9 returns)

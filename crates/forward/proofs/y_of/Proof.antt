@@ -4,10 +4,10 @@ use denote.Ref.{now}
 use mir.Syntax.{w64}
 use mir.Val.{toZ, ofZ}
 use Prim.Native.Nat.{_≤_}
-use Rattle.figures.specs.Ranges.{mostQ}
+use Rattle.rounding.specs.Ranges.{mostQ}
 use Rattle.steps.specs.Steps.{qOf, rise}
 use Rattle.steps.proofs.StepBounds.{q-most}
-use Rattle.figures.proofs.Holds.{Holds, sum, sum-fits}
+use Rattle.rounding.proofs.Holds.{Holds, sum, sum-fits}
 use Rattle.tables.specs.Figures.{y0At, vAt, cAt}
 use Rattle.tables.proofs.Ranges.{c-between}
 use Rattle.forward.specs.Forward.{yOf}
@@ -47,14 +47,8 @@ returns c =
     let whole = sum (y0-is worked) (rise-is worked) tt in
     (whole .is, rw (whole .is) (whole .size), y-marked _ _ _ (v .ensures .0) (q .ensures .0) (c-is start) (p .3) (worked .before .before .y0-at .ensures .2) (v .ensures .2) (p .4) (q .ensures .1) (worked .rise .ensures .1))
 
-v-at-requires : tie.Need-v-at-requires
-v-at-requires c κs = search needs
-
 q-of-requires : tie.Need-q-of-requires
 q-of-requires c κs = let p = c .before .before .pre in s-most _ (p .0 .passes) _ (p .1) _ (p .2)
-
-y0-at-requires : tie.Need-y0-at-requires
-y0-at-requires c κs = search needs
 
 rise-requires : tie.Need-rise-requires
 rise-requires c κs =
@@ -68,4 +62,4 @@ add-t10 c = sum-fits (y0-is (c .before .before .before .before)) (rise-is (c .be
 
 pub y-of-spec : {M : Type 1} → statement M
 y-of-spec =
-    tie.close (tie.spec v-at-requires q-of-requires y0-at-requires rise-requires add-t10 returns)
+    tie.close (tie.spec (λ c κs. search needs) q-of-requires (λ c κs. search needs) rise-requires add-t10 returns)

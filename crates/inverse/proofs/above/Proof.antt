@@ -1,6 +1,6 @@
 -- `inverse::above` meets its contract. Assumes nothing.
-use Rattle.figures.proofs.Order.{difference-nonNeg}
-use Rattle.figures.proofs.Holds.{held, difference, difference-fits, unsigned-fits, unsigned}
+use Rattle.rounding.proofs.Order.{difference-nonNeg}
+use Rattle.rounding.proofs.Holds.{held, difference, difference-fits, unsigned-fits, unsigned}
 use Rattle.inverse.proofs.above.Statement.{statement}
 use Rattle.inverse.proofs.above.Tie as tie
 

@@ -23,9 +23,6 @@ returns c =
     let h = worked .before .h-past .ensures .0 in
     (approximate-is worked, small worked, worked .approximate-l .ensures .1 ∙ rw h)
 
-h-past-requires : tie.Need-h-past-requires
-h-past-requires c κs = search needs
-
 approximate-l-requires : tie.Need-approximate-l-requires
 approximate-l-requires c κs =
     let p = c .before .before .pre in
@@ -35,4 +32,4 @@ mul-t7 : tie.Need-mul-t7
 mul-t7 c = record { fits = omega (arith, small (c .before)) }
 
 pub approximate-of-spec : {M : Type 1} → statement M
-approximate-of-spec = tie.close (tie.spec h-past-requires approximate-l-requires mul-t7 returns)
+approximate-of-spec = tie.close (tie.spec (λ c κs. search needs) approximate-l-requires mul-t7 returns)

@@ -6,8 +6,8 @@ use lib.IntN.{pos, natAbs}
 use denote.Ref.{now}
 use mir.Syntax.{w64}
 use mir.Val.{toZ, ofZ}
-use Rattle.figures.proofs.Holds.{held-size}
-use Rattle.words.proofs.Refusals.{stop, go, kept}
+use Rattle.rounding.proofs.Holds.{held-size}
+use Rattle.refusals.proofs.Ladders.{stop, go, kept}
 use Rattle.tables.proofs.Past.{distanceAt}
 use Rattle.extent.specs.Extent.{sizeKnown}
 use Rattle.extent.proofs.Reach.{easting-within, easting-span}
@@ -78,21 +78,12 @@ approximate-of-requires c κs =
     let p = c .before .before .pre in
     (p .0, rw (x-is c) (easting-within _ _ (p .2)), p .3, p .4)
 
-cast-size-known : tie.Need-cast-size-known
-cast-size-known c = search needs
-
-size-known-requires : tie.Need-size-known-requires
-size-known-requires c κs = search needs
-
 size-of-requires : tie.Need-size-of-requires
 size-of-requires c κs =
     let p = c .before .before .before .before .before .before .pre in
     let approximate = c .before .before .before .approximate-of in
     let known = rw (held-size w64 (approximate .ensures .1) tt .is) at (kept _ _ (c .before .size-known .ensures) (c .if1 .left)) in
     (p .0, rw (x-is (c .before .before .before .before)) (easting-within _ _ (p .2)), p .3, p .4, approximate .ensures .0, known, approximate .ensures .2)
-
-size-known-requires-2 : tie.Need-size-known-requires-2
-size-known-requires-2 c κs = search needs
 
 geographic-at-requires : tie.Need-geographic-at-requires
 geographic-at-requires c κs =
@@ -108,11 +99,11 @@ from-distance-spec =
     (tie.spec
     size-requires
     approximate-of-requires
-    cast-size-known
-    size-known-requires
+    (λ c. search needs)
+    (λ c κs. search needs)
     returns
     size-of-requires
-    size-known-requires-2
+    (λ c κs. search needs)
     returns-2
     geographic-at-requires
     returns-3)

@@ -3,7 +3,7 @@ use mathlib.Core.Path.{_≡_, ap, _∙_}
 use denote.Ref.{now}
 use mir.Syntax.{w64}
 use mir.Val.{toZ, ofZ}
-use Rattle.words.proofs.Refusals.{stop, go, kept}
+use Rattle.refusals.proofs.Ladders.{stop, go, kept}
 use Rattle.extent.specs.Extent.{reducedKnown}
 use Rattle.extent.proofs.Reach.{reduced-reach}
 use Rattle.inverse.specs.Inverse.{rowOf, fromReduced}
@@ -33,9 +33,6 @@ returns-2 c =
     go _ _ _ _ _ (known (c .before .before .before .before .before)) (c .before .before .before .before .if1 .left)
     (c .from-distance .ensures ∙ rw (xp-is start, seconds .0, seconds .2, reduced-is start))
 
-reduced-known-requires : tie.Need-reduced-known-requires
-reduced-known-requires c κs = search needs
-
 row-with-next-requires : tie.Need-row-with-next-requires
 row-with-next-requires c κs =
     let start = c .before .before .before in
@@ -62,7 +59,7 @@ pub from-reduced-spec : {M : Type 1} → statement M
 from-reduced-spec =
     tie.close
     (tie.spec
-    reduced-known-requires
+    (λ c κs. search needs)
     returns
     row-with-next-requires
     seconds-past-requires

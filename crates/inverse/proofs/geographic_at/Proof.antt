@@ -5,13 +5,13 @@ use native.Mathlib.Nat.{le-trans, lt-of-le-of-lt}
 use native.Mathlib.Omega.{arith}
 use lib.Dec.{lit<}
 use lib.IntN.{pos, natAbs}
-use Rattle.figures.specs.Ranges.{mostS}
+use Rattle.rounding.specs.Ranges.{mostS}
 use denote.Ref.{now}
 use mir.Syntax.{w64}
 use mir.Val.{toZ, ofZ}
-use Rattle.figures.specs.Nearest.{withSign}
-use Rattle.figures.proofs.Sizes.{size-withSign}
-use Rattle.figures.proofs.Holds.{Holds, held-size, sum, sum-fits, difference, difference-fits, cast, cast-fits}
+use Rattle.rounding.specs.Nearest.{withSign}
+use Rattle.rounding.proofs.Sizes.{size-withSign}
+use Rattle.rounding.proofs.Holds.{Holds, held-size, sum, sum-fits, difference, difference-fits, cast, cast-fits}
 use Rattle.entries.specs.Layout.{latitude, farthest}
 use Rattle.tables.specs.Figures.{centralMeridian, firstLatitude}
 use Rattle.tables.proofs.Origins.{first-held, central-held}
@@ -19,7 +19,7 @@ use Rattle.tables.proofs.Past.{distanceAt, past-reach}
 use Rattle.extent.proofs.Reach.{latitude-span, longitude-span, size-reach}
 use Rattle.inverse.specs.Inverse.{sizeOf, longitudeOf}
 use Rattle.inverse.proofs.Longitudes.{geographic-worked}
-use Rattle.figures.proofs.Bits.{bits-hold, both-same}
+use Rattle.rounding.proofs.Bits.{bits-hold, both-same}
 use borrow.Author.Needs.{needs}
 use Rattle.inverse.proofs.geographic_at.Statement.{statement}
 use Rattle.inverse.proofs.geographic_at.Tie as tie

@@ -4,11 +4,11 @@ use lib.IntN.{natAbs}
 use denote.Ref.{now}
 use mir.Syntax.{w32, w64}
 use mir.Val.{toZ, ofZ}
-use Rattle.words.proofs.Refusals.{stop, go, kept}
+use Rattle.refusals.proofs.Ladders.{stop, go, kept}
 use Rattle.extent.specs.Extent.{xPrime, eastingKnown, northingKnown}
 use Rattle.extent.proofs.Reach.{easting-within}
 use Rattle.inverse.specs.Inverse.{reducedNorthing, reducedHalf, inverseOf}
-use Rattle.figures.proofs.Bits.{bits-is, bits-below}
+use Rattle.rounding.proofs.Bits.{bits-is, bits-below}
 use borrow.Author.Needs.{needs}
 use Rattle.inverse.proofs.inverse.Statement.{statement}
 use Rattle.inverse.proofs.inverse.Tie as tie
@@ -58,18 +58,6 @@ returns-3 c =
     (go _ _ _ _ _ (northing-is (found .before .before .before)) (found .before .before .if2 .left)
     (c .from-reduced .ensures ∙ rw (xp-is (found .before .before .before .before .before .before), reduced-is found, half-is found)))
 
-origin-of-requires : tie.Need-origin-of-requires
-origin-of-requires c κs = search needs
-
-x-prime-requires : tie.Need-x-prime-requires
-x-prime-requires c κs = search needs
-
-easting-known-requires : tie.Need-easting-known-requires
-easting-known-requires c κs = search needs
-
-northing-known-requires : tie.Need-northing-known-requires
-northing-known-requires c κs = search needs
-
 size-requires : tie.Need-size-requires
 size-requires c κs = let xp = c .before .before .before .before .x-prime in bits-below (xp .result) (xp .ok) (xp .ensures .1) tt
 
@@ -91,11 +79,11 @@ pub inverse-spec : {M : Type 1} → statement M
 inverse-spec =
     tie.close
     (tie.spec
-    origin-of-requires
-    x-prime-requires
-    easting-known-requires
+    (λ c κs. search needs)
+    (λ c κs. search needs)
+    (λ c κs. search needs)
     returns
-    northing-known-requires
+    (λ c κs. search needs)
     returns-2
     size-requires
     reduced-northing-requires

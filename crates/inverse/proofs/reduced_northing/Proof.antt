@@ -7,8 +7,8 @@ use denote.Ref.{now}
 use mir.Syntax.{w64}
 use mir.Val.{toZ, ofZ}
 use Rattle.steps.specs.Steps.{reduction}
-use Rattle.figures.proofs.Sizes.{size-nonNeg}
-use Rattle.figures.proofs.Holds.{Holds, difference, difference-fits, unsigned-fits, size-below}
+use Rattle.rounding.proofs.Sizes.{size-nonNeg}
+use Rattle.rounding.proofs.Holds.{Holds, difference, difference-fits, unsigned-fits, size-below}
 use Rattle.tables.specs.Figures.{pAt, dAt}
 use Rattle.extent.proofs.Reach.{northing-reach, northing-within, easting-span}
 use Rattle.extent.proofs.Points.{wide, wide-fits}

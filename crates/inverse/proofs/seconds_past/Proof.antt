@@ -5,7 +5,7 @@ use lib.Dec.{lit≤}
 use mir.Syntax.{w64}
 use mir.Val.{toZ, ofZ}
 use Rattle.inverse.proofs.Distances.{z-most, next-there, row-below, next-fits, above-row, above-next, seconds-ask, seconds-are}
-use Rattle.figures.proofs.Bits.{bits-is, bits-most}
+use Rattle.rounding.proofs.Bits.{bits-is, bits-most}
 use borrow.Author.Needs.{needs}
 use Rattle.inverse.proofs.seconds_past.Statement.{statement}
 use Rattle.inverse.proofs.seconds_past.Tie as tie

@@ -45,12 +45,6 @@ b-at-requires c κs =
     let p = c .before .pre in
     (p .0, size-within _ _ (p .5))
 
-h-past-requires : tie.Need-h-past-requires
-h-past-requires c κs = search needs
-
-a-past-requires : tie.Need-a-past-requires
-a-past-requires c κs = search needs
-
 size-of-l-requires : tie.Need-size-of-l-requires
 size-of-l-requires c κs =
     let read = c .before .before in
@@ -74,4 +68,4 @@ cast-t10 c =
 
 pub size-of-spec : {M : Type 1} → statement M
 size-of-spec =
-    tie.close (tie.spec b-at-requires h-past-requires a-past-requires size-of-l-requires cast-t10 returns)
+    tie.close (tie.spec b-at-requires (λ c κs. search needs) (λ c κs. search needs) size-of-l-requires cast-t10 returns)

@@ -10,16 +10,7 @@ returns c = search before-is
 returns-2 : tie.Need-returns-2
 returns-2 c = search none-before
 
-sub-figures-at : tie.Need-sub-figures-at
-sub-figures-at c = search needs
-
-figures-at-requires : tie.Need-figures-at-requires
-figures-at-requires c κs = search needs
-
-within-bounds-requires : tie.Need-within-bounds-requires
-within-bounds-requires c κs = search needs
-
 pub bound-before-spec : {M : Type 1} → statement M
 bound-before-spec =
     tie.close
-    (tie.spec sub-figures-at figures-at-requires within-bounds-requires returns returns-2)
+    (tie.spec (λ c. search needs) (λ c κs. search needs) (λ c κs. search needs) returns returns-2)

@@ -4,8 +4,9 @@ use Prim.Native.Nat.{ℕ}
 use denote.Ref.{now}
 use mir.Syntax.{w32}
 use mir.Val.{toZ, ofZ}
-use Rattle.words.proofs.Refusals.{stop, go, kept}
-use Rattle.judge.specs.Judge.{namedRow, hasRow, boundBefore, boundAfter, judgedBy}
+use Rattle.refusals.proofs.Ladders.{stop, go, kept}
+use Rattle.minute_row.specs.MinuteRow.{namedRow, hasRow}
+use Rattle.judge.specs.Judge.{boundBefore, boundAfter, judgedBy}
 use borrow.Author.Needs.{needs}
 use Rattle.judge.proofs.judge.Statement.{statement}
 use Rattle.judge.proofs.judge.Tie as tie
@@ -63,34 +64,22 @@ returns-5 c =
     (go _ _ _ _ _ (before-is (c .before .before .before)) (c .before .before .if3 .left)
     (go _ _ _ _ _ (after-is (c .before)) (c .if4 .left) refl)))
 
-has-row-requires : tie.Need-has-row-requires
-has-row-requires c κs = search needs
-
-figures-in-range-requires : tie.Need-figures-in-range-requires
-figures-in-range-requires c κs = search needs
-
 named-row-requires : tie.Need-named-row-requires
 named-row-requires c κs =
     let start = c .before .before .before .before .before in
     (start .pre .0, start .pre .1, kept _ _ (c .before .before .before .has-row .ensures) (c .before .before .if1 .left))
 
-bound-before-requires : tie.Need-bound-before-requires
-bound-before-requires c κs = search needs
-
-bound-after-requires : tie.Need-bound-after-requires
-bound-after-requires c κs = search needs
-
 pub judge-spec : {M : Type 1} → statement M
 judge-spec =
     tie.close
     (tie.spec
-    has-row-requires
+    (λ c κs. search needs)
     returns
-    figures-in-range-requires
+    (λ c κs. search needs)
     returns-2
     named-row-requires
-    bound-before-requires
+    (λ c κs. search needs)
     returns-3
-    bound-after-requires
+    (λ c κs. search needs)
     returns-4
     returns-5)

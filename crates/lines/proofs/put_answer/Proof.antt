@@ -8,18 +8,6 @@ use borrow.Author.Needs.{needs}
 use Rattle.lines.proofs.put_answer.Statement.{statement}
 use Rattle.lines.proofs.put_answer.Tie as tie
 
-put-size-and-requires : tie.Need-put-size-and-requires
-put-size-and-requires c κs = search needs
-
-put-number-and-requires : tie.Need-put-number-and-requires
-put-number-and-requires c κs = search needs
-
-put-number-and-requires-2 : tie.Need-put-number-and-requires-2
-put-number-and-requires-2 c κs = search needs
-
-same-length : tie.Need-same-length
-same-length c = search needs
-
 returns : tie.Need-returns
 unfolding answerLine
 returns c =
@@ -35,8 +23,8 @@ pub put-answer-spec : {M : Type 1} → statement M
 put-answer-spec =
     tie.close
     (tie.spec
-    put-size-and-requires
-    put-number-and-requires
-    put-number-and-requires-2
-    same-length
+    (λ c κs. search needs)
+    (λ c κs. search needs)
+    (λ c κs. search needs)
+    (λ c. search needs)
     returns)

@@ -7,15 +7,6 @@ use borrow.Author.Needs.{needs}
 use Rattle.lines.proofs.put_number_and.Statement.{statement}
 use Rattle.lines.proofs.put_number_and.Tie as tie
 
-put-number-requires : tie.Need-put-number-requires
-put-number-requires c κs = search needs
-
-put-byte-requires : tie.Need-put-byte-requires
-put-byte-requires c κs = search needs
-
-same-length : tie.Need-same-length
-same-length c = search needs
-
 returns : tie.Need-returns
 returns c =
     let text = c .before .before .before .before .before .before .put-number .ensures in
@@ -25,4 +16,4 @@ returns c =
 
 pub put-number-and-spec : {M : Type 1} → statement M
 put-number-and-spec =
-    tie.close (tie.spec put-number-requires put-byte-requires same-length returns)
+    tie.close (tie.spec (λ c κs. search needs) (λ c κs. search needs) (λ c. search needs) returns)

@@ -5,15 +5,6 @@ use borrow.Author.Needs.{needs}
 use Rattle.lines.proofs.put_size_and.Statement.{statement}
 use Rattle.lines.proofs.put_size_and.Tie as tie
 
-put-size-requires : tie.Need-put-size-requires
-put-size-requires c κs = search needs
-
-put-byte-requires : tie.Need-put-byte-requires
-put-byte-requires c κs = search needs
-
-same-length : tie.Need-same-length
-same-length c = search needs
-
 returns : tie.Need-returns
 returns c =
     let text = c .before .before .before .before .before .before .put-size .ensures in
@@ -21,4 +12,4 @@ returns c =
     (omega (arith, text .0, byte .0), then (text .1) (byte .1))
 
 pub put-size-and-spec : {M : Type 1} → statement M
-put-size-and-spec = tie.close (tie.spec put-size-requires put-byte-requires same-length returns)
+put-size-and-spec = tie.close (tie.spec (λ c κs. search needs) (λ c κs. search needs) (λ c. search needs) returns)

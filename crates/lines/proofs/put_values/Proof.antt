@@ -6,24 +6,12 @@ use borrow.Author.Needs.{needs, sfits-of}
 use Rattle.lines.proofs.put_values.Statement.{statement}
 use Rattle.lines.proofs.put_values.Tie as tie
 
-put-unknown-requires : tie.Need-put-unknown-requires
-put-unknown-requires c κs = search needs
-
-same-length : tie.Need-same-length
-same-length c = search needs
-
 returns : tie.Need-returns
 returns c =
     let put = c .before .before in
     let test = put .before .before in
     let start = test .before .before in
     (put .put-unknown .ensures .0, rw (unknown-text (start .args .v) (test .if1 .taken)) at (put .put-unknown .ensures .1))
-
-put-answer-requires : tie.Need-put-answer-requires
-put-answer-requires c κs = search needs
-
-same-length-2 : tie.Need-same-length-2
-same-length-2 c = search needs
 
 returns-2 : tie.Need-returns-2
 returns-2 c =
@@ -38,4 +26,4 @@ returns-2 c =
 pub put-values-spec : {M : Type 1} → statement M
 put-values-spec =
     tie.close
-    (tie.spec put-unknown-requires same-length returns put-answer-requires same-length-2 returns-2)
+    (tie.spec (λ c κs. search needs) (λ c. search needs) returns (λ c κs. search needs) (λ c. search needs) returns-2)

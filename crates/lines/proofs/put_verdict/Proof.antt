@@ -6,18 +6,6 @@ use borrow.Author.Needs.{needs}
 use Rattle.lines.proofs.put_verdict.Statement.{statement}
 use Rattle.lines.proofs.put_verdict.Tie as tie
 
-put-size-and-requires : tie.Need-put-size-and-requires
-put-size-and-requires c κs = search needs
-
-put-size-and-requires-2 : tie.Need-put-size-and-requires-2
-put-size-and-requires-2 c κs = search needs
-
-put-size-and-requires-3 : tie.Need-put-size-and-requires-3
-put-size-and-requires-3 c κs = search needs
-
-same-length : tie.Need-same-length
-same-length c = search needs
-
 returns : tie.Need-returns
 unfolding verdictLine
 returns c =
@@ -30,8 +18,8 @@ pub put-verdict-spec : {M : Type 1} → statement M
 put-verdict-spec =
     tie.close
     (tie.spec
-    put-size-and-requires
-    put-size-and-requires-2
-    put-size-and-requires-3
-    same-length
+    (λ c κs. search needs)
+    (λ c κs. search needs)
+    (λ c κs. search needs)
+    (λ c. search needs)
     returns)

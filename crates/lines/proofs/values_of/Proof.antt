@@ -8,9 +8,6 @@ use borrow.Author.Needs.{needs, sfits-of}
 use Rattle.lines.proofs.values_of.Statement.{statement}
 use Rattle.lines.proofs.values_of.Tie as tie
 
-forward-requires : tie.Need-forward-requires
-forward-requires c κs = search needs
-
 returns : tie.Need-returns
 returns c =
     let told = c in
@@ -23,9 +20,6 @@ returns c =
     let u = toZ-ofZ {w = w32} {z = call .forward .result .x} (sfits-of (told .struct-told3 .given .1 .0 .1)) in
     let v = toZ-ofZ {w = w32} {z = call .forward .result .y} (sfits-of (told .struct-told3 .given .1 .1 .0 .1)) in
     rw (u, v) (forward-values (now (start .args .s)) (start .args .l) (start .pre .passes) _ _ x y (call .forward .result) (test .if1 .taken) (call .forward .ensures))
-
-inverse-requires : tie.Need-inverse-requires
-inverse-requires c κs = search needs
 
 returns-2 : tie.Need-returns-2
 returns-2 c =
@@ -40,9 +34,6 @@ returns-2 c =
     let v = toZ-ofZ {w = w32} {z = call .inverse .result .longitude} (sfits-of (told .struct-told6 .given .1 .1 .0 .1)) in
     rw (u, v) (inverse-values (now (start .args .s)) (start .args .l) (start .pre .passes) _ _ x y (call .inverse .result) (test .before .if1 .left) (test .if2 .taken) (call .inverse .ensures))
 
-convergence-requires : tie.Need-convergence-requires
-convergence-requires c κs = search needs
-
 returns-3 : tie.Need-returns-3
 returns-3 c =
     let told = c in
@@ -56,9 +47,6 @@ returns-3 c =
     let v = toZ-ofZ {w = w32} {z = call .convergence .result .scale} (sfits-of (told .struct-told9 .given .1 .1 .0 .1)) in
     rw (u, v) (grid-values (now (start .args .s)) (start .args .l) (start .pre .passes) _ _ x y (call .convergence .result) (test .before .before .if1 .left) (test .before .if2 .left) (test .if3 .taken) (call .convergence .ensures))
 
-refusal-requires : tie.Need-refusal-requires
-refusal-requires c κs = search needs
-
 returns-4 : tie.Need-returns-4
 returns-4 c = let test = c .before in
     c .refusal .ensures ∙ none-known _ _ (test .before .before .if1 .left) (test .before .if2 .left) (test .if3 .left)
@@ -67,11 +55,11 @@ pub values-of-spec : {M : Type 1} → statement M
 values-of-spec =
     tie.close
     (tie.spec
-    forward-requires
+    (λ c κs. search needs)
     returns
-    inverse-requires
+    (λ c κs. search needs)
     returns-2
-    convergence-requires
+    (λ c κs. search needs)
     returns-3
-    refusal-requires
+    (λ c κs. search needs)
     returns-4)

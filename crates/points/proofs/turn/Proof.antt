@@ -6,15 +6,6 @@ use Rattle.points.proofs.Turning.{on, failed, done}
 use Rattle.points.proofs.turn.Statement.{statement}
 use Rattle.points.proofs.turn.Tie as tie
 
-answer-block-requires : tie.Need-answer-block-requires
-answer-block-requires c κs = search needs
-
-same-length : tie.Need-same-length
-same-length c = search needs
-
-same-length-2 : tie.Need-same-length-2
-same-length-2 c = search needs
-
 returns : tie.Need-returns
 returns c =
     let d = c .before .before .before .before in
@@ -28,15 +19,6 @@ returns-2 c =
     let a = end .before .before .before .before .args in
     failed (now (a .sheet)) (now (a .input)) _ (a .kept) (a .more) (now (a .out)) _ (end .if1 .left) refl (c .if2 .taken) refl
 
-answer-last-requires : tie.Need-answer-last-requires
-answer-last-requires c κs = search needs
-
-same-length-3 : tie.Need-same-length-3
-same-length-3 c = search needs
-
-same-length-4 : tie.Need-same-length-4
-same-length-4 c = search needs
-
 returns-3 : tie.Need-returns-3
 returns-3 c =
     let last = c .before .before in
@@ -49,12 +31,12 @@ pub turn-spec : {M : Type 1} → statement M
 turn-spec =
     tie.close
     (tie.spec
-    answer-block-requires
-    same-length
-    same-length-2
+    (λ c κs. search needs)
+    (λ c. search needs)
+    (λ c. search needs)
     returns
     returns-2
-    answer-last-requires
-    same-length-3
-    same-length-4
+    (λ c κs. search needs)
+    (λ c. search needs)
+    (λ c. search needs)
     returns-3)

@@ -6,14 +6,11 @@ use lib.IntN.{natAbs}
 use mir.Syntax.{w64}
 use mir.Val.{toZ, ofZ}
 use Rattle.entries.specs.Layout.{oneMinute}
-use Rattle.figures.proofs.Bits.{bits-is, bits-below}
+use Rattle.rounding.proofs.Bits.{bits-is, bits-below}
 use Rattle.reached.proofs.Asking.{minutes-most}
 use borrow.Author.Needs.{needs}
 use Rattle.reached.proofs.first_minute.Statement.{statement}
 use Rattle.reached.proofs.first_minute.Tie as tie
-
-first-latitude-requires : tie.Need-first-latitude-requires
-first-latitude-requires c κs = search needs
 
 size-requires : tie.Need-size-requires
 size-requires c κs = let r = c .first-latitude in bits-below (r .result) (r .ok) (r .ensures .1) tt
@@ -26,4 +23,4 @@ returns c =
     (ap (λ (x : ℕ). x / oneMinute) (size ∙ ap natAbs (r .ensures .0)), minutes-most (c .size .result) 5_400 (omega (arith, size, r .ensures .1)))
 
 pub first-minute-spec : {M : Type 1} → statement M
-first-minute-spec = tie.close (tie.spec first-latitude-requires size-requires returns)
+first-minute-spec = tie.close (tie.spec (λ c κs. search needs) size-requires returns)

@@ -4,14 +4,8 @@ use borrow.Author.Needs.{needs}
 use Rattle.reached.proofs.is_reached.Statement.{statement}
 use Rattle.reached.proofs.is_reached.Tie as tie
 
-is-reached-on-requires : tie.Need-is-reached-on-requires
-is-reached-on-requires c κs = search needs
-
-is-reached-on-requires-2 : tie.Need-is-reached-on-requires-2
-is-reached-on-requires-2 c κs = search needs
-
 returns : tie.Need-returns
 returns c = search (on-either, needs)
 
 pub is-reached-spec : {M : Type 1} → statement M
-is-reached-spec = tie.close (tie.spec is-reached-on-requires is-reached-on-requires-2 returns)
+is-reached-spec = tie.close (tie.spec (λ c κs. search needs) (λ c κs. search needs) returns)

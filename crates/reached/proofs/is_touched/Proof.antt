@@ -8,9 +8,6 @@ use borrow.Author.Needs.{needs}
 use Rattle.reached.proofs.is_touched.Statement.{statement}
 use Rattle.reached.proofs.is_touched.Tie as tie
 
-forward-touched-requires : tie.Need-forward-touched-requires
-forward-touched-requires c κs = search needs
-
 returns : tie.Need-returns
 returns c =
     let two = c .before in
@@ -20,9 +17,6 @@ returns c =
     let x : toZ w32 (ofZ w32 (start .args .l .first)) ≡ start .args .l .first = search needs in
     let y : toZ w32 (ofZ w32 (start .args .l .second)) ≡ start .args .l .second = search needs in
     forward-touches (now (start .args .s)) (start .args .l) (start .args .minute) _ _ _ m x y (c .forward-touched .result) (test .if1 .taken) (c .forward-touched .ensures)
-
-inverse-touched-requires : tie.Need-inverse-touched-requires
-inverse-touched-requires c κs = search needs
 
 returns-2 : tie.Need-returns-2
 returns-2 c =
@@ -40,4 +34,4 @@ returns-3 c = none-touches _ _ _ (c .before .if1 .left) (c .if2 .left)
 pub is-touched-spec : {M : Type 1} → statement M
 is-touched-spec =
     tie.close
-    (tie.spec forward-touched-requires returns inverse-touched-requires returns-2 returns-3)
+    (tie.spec (λ c κs. search needs) returns (λ c κs. search needs) returns-2 returns-3)

@@ -11,9 +11,6 @@ use Rattle.reached.proofs.is_touched_where.Tie as tie
 returns : tie.Need-returns
 returns c = not-differing (c .before .before .args .differs) _ (c .if1 .taken)
 
-is-touched-requires : tie.Need-is-touched-requires
-is-touched-requires c κs = search needs
-
 returns-2 : tie.Need-returns-2
 returns-2 c =
     let start = c .before .before .before in
@@ -21,4 +18,4 @@ returns-2 c =
     where-differing (start .args .differs) _ _ (c .before .if1 .left) (c .is-touched .ensures ∙ ap (touches _ _) same)
 
 pub is-touched-where-spec : {M : Type 1} → statement M
-is-touched-where-spec = tie.close (tie.spec returns is-touched-requires returns-2)
+is-touched-where-spec = tie.close (tie.spec returns (λ c κs. search needs) returns-2)

@@ -4,7 +4,7 @@ use native.Mathlib.Omega.{arith}
 use mir.Syntax.{w32}
 use mir.Val.{SFits, toZ, ofZ}
 use lib.IntN.{natAbs}
-use Rattle.figures.proofs.Holds.{size-below}
+use Rattle.rounding.proofs.Holds.{size-below}
 use Rattle.extent.proofs.Points.{wide, wide-fits}
 use Rattle.reached.proofs.Asking.{minutes-most, forward-lower, inverse-lower, none-lower}
 use borrow.Author.Needs.{needs}
@@ -27,9 +27,6 @@ returns c =
     let size : c .size .result ≡ natAbs (start .args .l .first) = c .size .ensures ∙ ap natAbs (first .is) in
     (forward-lower _ (start .args .l) (c .before .before .before .if1 .taken) _ size, minutes-most (c .size .result) 40_000 (omega (arith, size, first .size)))
 
-plane-minute-requires : tie.Need-plane-minute-requires
-plane-minute-requires c κs = search needs
-
 returns-2 : tie.Need-returns-2
 returns-2 c =
     let start = c .before .before .before .before .before .before in
@@ -43,4 +40,4 @@ returns-3 c = (none-lower _ _ (c .before .if1 .left) (c .if2 .left), omega arith
 
 pub lower-minute-spec : {M : Type 1} → statement M
 lower-minute-spec =
-    tie.close (tie.spec cast-size size-requires returns plane-minute-requires returns-2 returns-3)
+    tie.close (tie.spec cast-size size-requires returns (λ c κs. search needs) returns-2 returns-3)

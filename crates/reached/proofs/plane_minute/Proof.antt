@@ -6,11 +6,11 @@ use lib.IntN.{natAbs}
 use denote.Ref.{now}
 use mir.Syntax.{w32, w64}
 use mir.Val.{toZ, ofZ}
-use Rattle.words.proofs.Refusals.{stop, go, kept}
+use Rattle.refusals.proofs.Ladders.{stop, go, kept}
 use Rattle.extent.specs.Extent.{xPrime, eastingKnown, northingKnown}
 use Rattle.extent.proofs.Reach.{easting-within, latitude-count}
 use Rattle.inverse.specs.Inverse.{reducedNorthing}
-use Rattle.figures.proofs.Bits.{bits-is, bits-below}
+use Rattle.rounding.proofs.Bits.{bits-is, bits-below}
 use Rattle.reached.specs.Reached.{planeMinute}
 use borrow.Author.Needs.{needs}
 use Rattle.reached.proofs.plane_minute.Statement.{statement}
@@ -64,18 +64,6 @@ returns-3 c =
       omega (arith, sum-most c),
     )
 
-origin-of-requires : tie.Need-origin-of-requires
-origin-of-requires c κs = search needs
-
-x-prime-requires : tie.Need-x-prime-requires
-x-prime-requires c κs = search needs
-
-easting-known-requires : tie.Need-easting-known-requires
-easting-known-requires c κs = search needs
-
-northing-known-requires : tie.Need-northing-known-requires
-northing-known-requires c κs = search needs
-
 size-requires : tie.Need-size-requires
 size-requires c κs = let xp = c .before .before .before .before .x-prime in bits-below (xp .result) (xp .ok) (xp .ensures .1) tt
 
@@ -85,12 +73,6 @@ reduced-northing-requires c κs =
     let easting = kept _ _ (c .before .before .before .before .easting-known .ensures) (c .before .before .before .if1 .left) in
     (p, rw (c .size .ensures) (easting-within _ _ easting), kept _ _ (c .before .before .northing-known .ensures) (c .before .if2 .left))
 
-first-minute-requires : tie.Need-first-minute-requires
-first-minute-requires c κs = search needs
-
-row-below-requires : tie.Need-row-below-requires
-row-below-requires c κs = search needs
-
 add-result : tie.Need-add-result
 add-result c = record { fits = omega (arith, sum-most c) }
 
@@ -98,15 +80,15 @@ pub plane-minute-spec : {M : Type 1} → statement M
 plane-minute-spec =
     tie.close
     (tie.spec
-    origin-of-requires
-    x-prime-requires
-    easting-known-requires
+    (λ c κs. search needs)
+    (λ c κs. search needs)
+    (λ c κs. search needs)
     returns
-    northing-known-requires
+    (λ c κs. search needs)
     returns-2
     size-requires
     reduced-northing-requires
-    first-minute-requires
-    row-below-requires
+    (λ c κs. search needs)
+    (λ c κs. search needs)
     add-result
     returns-3)

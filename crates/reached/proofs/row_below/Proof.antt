@@ -2,7 +2,7 @@
 use mathlib.Core.Path.{_≡_, _∙_}
 use mir.Syntax.{w64}
 use mir.Val.{toZ, ofZ}
-use Rattle.figures.proofs.Bits.{bits-is}
+use Rattle.rounding.proofs.Bits.{bits-is}
 use Rattle.tables.proofs.Ranges.{latitude-some}
 use Rattle.inverse.specs.Inverse.{rowOf}
 use Rattle.reached.proofs.TwoMinutes.{none-below-it, some-below-it}
@@ -22,8 +22,8 @@ returns c =
     let start = c .before .before .before in
     (none-below-it _ (start .pre .0 .passes) _ _ _ (z-is start) (bits-is (read .ok) ∙ read .ensures .0) (c .if1 .taken), latitude-some _ (start .pre .0 .passes))
 
-row-of-requires : tie.Need-row-of-requires
-row-of-requires c κs =
+row-of-northing-requires : tie.Need-row-of-northing-requires
+row-of-northing-requires c κs =
     let read = c .before .y0-of in
     let start = c .before .before .before in
     let p = start .pre in
@@ -31,7 +31,7 @@ row-of-requires c κs =
 
 returns-2 : tie.Need-returns-2
 unfolding rowOf
-returns-2 c = (c .row-of .ensures .0 ∙ rw (z-is (c .before .before .before .before)), c .row-of .ensures .1)
+returns-2 c = (c .row-of-northing .ensures .0 ∙ rw (z-is (c .before .before .before .before)), c .row-of-northing .ensures .1)
 
 pub row-below-spec : {M : Type 1} → statement M
-row-below-spec = tie.close (tie.spec y0-of-requires returns row-of-requires returns-2)
+row-below-spec = tie.close (tie.spec y0-of-requires returns row-of-northing-requires returns-2)

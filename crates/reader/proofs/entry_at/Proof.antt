@@ -14,30 +14,15 @@ returns-2 c = ends-at _ _ (omega arith)
 returns-3 : tie.Need-returns-3
 returns-3 c = entry-is _ _ _ _ _ (omega arith) (c .before .before .unsigned-word .ensures .0) (c .before .unsigned-word2 .ensures .0) (c .unsigned-word3 .ensures .0)
 
-unsigned-word-requires : tie.Need-unsigned-word-requires
-unsigned-word-requires c κs = search needs
-
-add-unsigned-word : tie.Need-add-unsigned-word
-add-unsigned-word c = search needs
-
-unsigned-word-requires-2 : tie.Need-unsigned-word-requires-2
-unsigned-word-requires-2 c κs = search needs
-
-add-unsigned-word-2 : tie.Need-add-unsigned-word-2
-add-unsigned-word-2 c = search needs
-
-unsigned-word-requires-3 : tie.Need-unsigned-word-requires-3
-unsigned-word-requires-3 c κs = search needs
-
 pub entry-at-spec : {M : Type 1} → statement M
 entry-at-spec =
     tie.close
     (tie.spec
     returns
     returns-2
-    unsigned-word-requires
-    add-unsigned-word
-    unsigned-word-requires-2
-    add-unsigned-word-2
-    unsigned-word-requires-3
+    (λ c κs. search needs)
+    (λ c. search needs)
+    (λ c κs. search needs)
+    (λ c. search needs)
+    (λ c κs. search needs)
     returns-3)

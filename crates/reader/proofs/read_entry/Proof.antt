@@ -9,9 +9,6 @@ use Rattle.reader.proofs.read_entry.Tie as tie
 returns : tie.Need-returns
 returns c = search no-word
 
-form-of-requires : tie.Need-form-of-requires
-form-of-requires c κs = search needs
-
 returns-2 : tie.Need-returns-2
 returns-2 c = search past-last
 
@@ -21,9 +18,6 @@ mul-read-at c = search (entry-fits, of-sheet)
 add-read-at : tie.Need-add-read-at
 add-read-at c = search (next-fits, of-sheet)
 
-read-at-requires : tie.Need-read-at-requires
-read-at-requires c κs = search needs
-
 returns-3 : tie.Need-returns-3
 returns-3 c = search numbered-is
 
@@ -32,9 +26,9 @@ read-entry-spec =
     tie.close
     (tie.spec
     returns
-    form-of-requires
+    (λ c κs. search needs)
     returns-2
     mul-read-at
     add-read-at
-    read-at-requires
+    (λ c κs. search needs)
     returns-3)

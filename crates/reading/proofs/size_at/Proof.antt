@@ -15,9 +15,6 @@ returns c =
     let e = c .before .with-next .ensures in
     (c .size-past-row .ensures .0 ∙ pair-value _ _ _ _ (p .0) (p .3) (p .5) e _, c .size-past-row .ensures .1 ∙ pair-half _ _ _ _ (p .0) (p .3) (p .5) e _)
 
-div-with-next : tie.Need-div-with-next
-div-with-next c = search needs
-
 cast-with-next : tie.Need-cast-with-next
 cast-with-next c = let a = c .before in record { fits = omega (arith, div-le-self (a .args .offset) (a .args .step), a .fits .offset .fits) }
 
@@ -51,7 +48,7 @@ pub size-at-spec : {M : Type 1} → statement M
 size-at-spec =
     tie.close
     (tie.spec
-    div-with-next
+    (λ c. search needs)
     cast-with-next
     with-next-requires
     cast-size-past-row

@@ -14,9 +14,6 @@ returns c =
     let e = c .before .with-next .ensures in
     (c .past-row .ensures .0 ∙ pair-value _ _ _ _ (p .0) (p .3) (p .5) e _, c .past-row .ensures .1 ∙ pair-half _ _ _ _ (p .0) (p .3) (p .5) e _)
 
-div-with-next : tie.Need-div-with-next
-div-with-next c = search needs
-
 cast-with-next : tie.Need-cast-with-next
 cast-with-next c = let a = c .before in record { fits = omega (arith, div-le-self (a .args .offset) (a .args .step), a .fits .offset .fits) }
 
@@ -48,4 +45,4 @@ past-row-requires c κs =
 pub value-at-spec : {M : Type 1} → statement M
 value-at-spec =
     tie.close
-    (tie.spec div-with-next cast-with-next with-next-requires cast-past-row mul-past-row sub-past-row past-row-requires returns)
+    (tie.spec (λ c. search needs) cast-with-next with-next-requires cast-past-row mul-past-row sub-past-row past-row-requires returns)

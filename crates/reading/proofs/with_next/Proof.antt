@@ -26,14 +26,8 @@ module _ (k n r last : ℕ) (one : last < k → r ≡ 1) (none : k ≤ last → 
 returns : tie.Need-returns
 returns c = let b = c .before in is-cut (b .args .k) (b .args .n) (c .beyond .result) _ (c .beyond .ensures .0) (c .beyond .ensures .1) (b .pre .1) (omega (arith, b .pre .0))
 
-sub-beyond : tie.Need-sub-beyond
-sub-beyond c = search needs
-
-beyond-requires : tie.Need-beyond-requires
-beyond-requires c κs = search needs
-
 sub-result : tie.Need-sub-result
 sub-result c = let b = c .before in some (b .args .k) (b .args .n) (c .beyond .result) _ (c .beyond .ensures .0) (c .beyond .ensures .1) (b .pre .1) (omega (arith, b .pre .0))
 
 pub with-next-spec : {M : Type 1} → statement M
-with-next-spec = tie.close (tie.spec sub-beyond beyond-requires sub-result returns)
+with-next-spec = tie.close (tie.spec (λ c. search needs) (λ c κs. search needs) sub-result returns)

@@ -17,15 +17,6 @@ returns c =
     let last : toZ w64 ((c .args .rows - 1) * c .args .step) ≡ pos ((c .args .rows - 1) * c .args .step) = search span-bits in
     rw (z, last)
 
-sub-last : tie.Need-sub-last
-sub-last c = search needs
-
-cast-last : tie.Need-cast-last
-cast-last c = search needs
-
-cast-last-2 : tie.Need-cast-last-2
-cast-last-2 c = search needs
-
 mul-last : tie.Need-mul-last
 mul-last c = search span-fits
 
@@ -33,4 +24,4 @@ cast-result : tie.Need-cast-result
 cast-result c = search span-signed
 
 pub within-rows-spec : {M : Type 1} → statement M
-within-rows-spec = tie.close (tie.spec sub-last cast-last cast-last-2 mul-last cast-result returns)
+within-rows-spec = tie.close (tie.spec (λ c. search needs) (λ c. search needs) (λ c. search needs) mul-last cast-result returns)

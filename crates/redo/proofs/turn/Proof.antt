@@ -6,15 +6,6 @@ use Rattle.redo.proofs.Turning.{on, failed, done}
 use Rattle.redo.proofs.turn.Statement.{statement}
 use Rattle.redo.proofs.turn.Tie as tie
 
-compare-block-requires : tie.Need-compare-block-requires
-compare-block-requires c κs = search needs
-
-same-length : tie.Need-same-length
-same-length c = search needs
-
-same-length-2 : tie.Need-same-length-2
-same-length-2 c = search needs
-
 returns : tie.Need-returns
 returns c =
     let d = c .before .before .before .before in
@@ -27,15 +18,6 @@ returns-2 c =
     let end = c .before in
     let a = end .before .before .before .before .before .before .args in
     failed (now (a .old)) (now (a .new)) (now (a .input)) _ (a .prior) (a .more) (now (a .out)) _ (end .if1 .left) refl (c .if2 .taken) refl
-
-compare-last-requires : tie.Need-compare-last-requires
-compare-last-requires c κs = search needs
-
-same-length-3 : tie.Need-same-length-3
-same-length-3 c = search needs
-
-same-length-4 : tie.Need-same-length-4
-same-length-4 c = search needs
 
 returns-3 : tie.Need-returns-3
 returns-3 c =
@@ -50,12 +32,12 @@ pub turn-spec : {M : Type 1} → statement M
 turn-spec =
     tie.close
     (tie.spec
-    compare-block-requires
-    same-length
-    same-length-2
+    (λ c κs. search needs)
+    (λ c. search needs)
+    (λ c. search needs)
     returns
     returns-2
-    compare-last-requires
-    same-length-3
-    same-length-4
+    (λ c κs. search needs)
+    (λ c. search needs)
+    (λ c. search needs)
     returns-3)

@@ -7,15 +7,6 @@ use borrow.Author.Needs.{needs}
 use Rattle.redone.proofs.compare_last.Statement.{statement}
 use Rattle.redone.proofs.compare_last.Tie as tie
 
-compare-rest-requires : tie.Need-compare-rest-requires
-compare-rest-requires c κs = search needs
-
-put-counts-requires : tie.Need-put-counts-requires
-put-counts-requires c κs = search needs
-
-same-length : tie.Need-same-length
-same-length c = search needs
-
 returns : tie.Need-returns
 returns c =
     let counts = c .before .before .put-counts .ensures in
@@ -26,4 +17,4 @@ returns c =
 
 pub compare-last-spec : {M : Type 1} → statement M
 compare-last-spec =
-    tie.close (tie.spec compare-rest-requires put-counts-requires same-length returns)
+    tie.close (tie.spec (λ c κs. search needs) (λ c κs. search needs) (λ c. search needs) returns)

@@ -5,27 +5,6 @@ use borrow.Author.Needs.{needs}
 use Rattle.redone.proofs.compare_one.Statement.{statement}
 use Rattle.redone.proofs.compare_one.Tie as tie
 
-up-requires : tie.Need-up-requires
-up-requires c κs = search needs
-
-compare-line-requires : tie.Need-compare-line-requires
-compare-line-requires c κs = search needs
-
-up-where-requires : tie.Need-up-where-requires
-up-where-requires c κs = search needs
-
-up-where-requires-2 : tie.Need-up-where-requires-2
-up-where-requires-2 c κs = search needs
-
-up-where-requires-3 : tie.Need-up-where-requires-3
-up-where-requires-3 c κs = search needs
-
-stray-after-requires : tie.Need-stray-after-requires
-stray-after-requires c κs = search needs
-
-same-length : tie.Need-same-length
-same-length c = search needs
-
 returns : tie.Need-returns
 returns c =
     let line = c .before .before .before .before .before .before .compare-line .ensures in
@@ -41,11 +20,11 @@ pub compare-one-spec : {M : Type 1} → statement M
 compare-one-spec =
     tie.close
     (tie.spec
-    up-requires
-    compare-line-requires
-    up-where-requires
-    up-where-requires-2
-    up-where-requires-3
-    stray-after-requires
-    same-length
+    (λ c κs. search needs)
+    (λ c κs. search needs)
+    (λ c κs. search needs)
+    (λ c κs. search needs)
+    (λ c κs. search needs)
+    (λ c κs. search needs)
+    (λ c. search needs)
     returns)

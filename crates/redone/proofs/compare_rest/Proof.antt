@@ -13,21 +13,6 @@ returns c =
     let d = none-left (now (a .old)) (now (a .new)) (a .a) _ (now (a .buffer)) (now (a .out)) (c .if1 .taken) in
     (omega arith, d .0, d .1)
 
-sub-compare-one : tie.Need-sub-compare-one
-sub-compare-one c = search needs
-
-part-compare-one-start : tie.Need-part-compare-one-start
-part-compare-one-start c = search needs
-
-part-compare-one-end : tie.Need-part-compare-one-end
-part-compare-one-end c = search needs
-
-compare-one-requires : tie.Need-compare-one-requires
-compare-one-requires c κs = search needs
-
-same-length : tie.Need-same-length
-same-length c = search needs
-
 returns-2 : tie.Need-returns-2
 returns-2 c =
     let one = c .before .before .compare-one .ensures in
@@ -42,9 +27,9 @@ compare-rest-spec =
     tie.close
     (tie.spec
     returns
-    sub-compare-one
-    part-compare-one-start
-    part-compare-one-end
-    compare-one-requires
-    same-length
+    (λ c. search needs)
+    (λ c. search needs)
+    (λ c. search needs)
+    (λ c κs. search needs)
+    (λ c. search needs)
     returns-2)

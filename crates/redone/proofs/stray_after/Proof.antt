@@ -1,6 +1,5 @@
 -- `redone::stray_after` meets its contract. Assumes nothing.
 use Rattle.redone.proofs.Counting.{known-line, first-stray, later-stray}
-use borrow.Author.Needs.{needs}
 use Rattle.redone.proofs.stray_after.Statement.{statement}
 use Rattle.redone.proofs.stray_after.Tie as tie
 

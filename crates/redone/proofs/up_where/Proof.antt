@@ -4,9 +4,6 @@ use borrow.Author.Needs.{needs}
 use Rattle.redone.proofs.up_where.Statement.{statement}
 use Rattle.redone.proofs.up_where.Tie as tie
 
-up-requires : tie.Need-up-requires
-up-requires c κs = search needs
-
 returns : tie.Need-returns
 returns c = one-up _ _ _ (c .before .if1 .taken) (c .up .ensures)
 
@@ -14,4 +11,4 @@ returns-2 : tie.Need-returns-2
 returns-2 c = as-before _ _ (c .if1 .left)
 
 pub up-where-spec : {M : Type 1} → statement M
-up-where-spec = tie.close (tie.spec up-requires returns returns-2)
+up-where-spec = tie.close (tie.spec (λ c κs. search needs) returns returns-2)

@@ -1,14 +1,14 @@
 -- `row_search::first_look` meets its contract. Assumes nothing.
 use borrow.Author.Needs.{needs}
 use native.Mathlib.Omega.{arith}
-use mathlib.Core.Path.{_≡_, sym}
+use mathlib.Core.Path.{_≡_}
 use mathlib.Core.Bool.{true}
-use lib.IntN.{pos, _-ℤ_}
+use lib.IntN.{pos}
 use lib.Signed.{leZ}
 use mir.Syntax.{w64}
-use mir.Val.{toZ, ofZ}
-use Rattle.figures.proofs.Holds.{Holds, held, held-size, difference-fits, difference, unsigned-fits}
-use Rattle.figures.proofs.Order.{difference-nonNeg}
+use mir.Val.{ofZ}
+use Rattle.rounding.proofs.Holds.{Holds, held, held-size, difference-fits, difference, unsigned-fits}
+use Rattle.rounding.proofs.Order.{difference-nonNeg}
 use Rattle.reading.proofs.Unsigned.{word-size}
 use Rattle.row_search.proofs.first_look.Statement.{statement}
 use Rattle.row_search.proofs.first_look.Tie as tie
@@ -26,39 +26,21 @@ module _ (c : tie.After-unsigned-word) where
       let word = c .unsigned-word in
       rw (← word-size (s .args .b .now) (s .args .c) (word .result) (word .ensures .0) (word .ensures .1) (s .pre .3)) (s .pre .4)
 
-unsigned-word-requires : tie.Need-unsigned-word-requires
-unsigned-word-requires c κs = search needs
-
-cast-height : tie.Need-cast-height
-cast-height c = search needs
-
 sub-height : tie.Need-sub-height
 sub-height c = difference-fits (z c) (figure c) tt
 
 cast-height-2 : tie.Need-cast-height-2
 cast-height-2 c = unsigned-fits (difference (z c) (figure c) tt) (difference-nonNeg (pos (c .unsigned-word .result)) (c .before .before .args .z) (not-above c)) tt
 
-div-row : tie.Need-div-row
-div-row c = search needs
-
-sub-result : tie.Need-sub-result
-sub-result c = search needs
-
-returns : tie.Need-returns
-returns c = search needs
-
-returns-2 : tie.Need-returns-2
-returns-2 c = search needs
-
 pub first-look-spec : {M : Type 1} → statement M
 first-look-spec =
     tie.close
     (tie.spec
-    unsigned-word-requires
-    cast-height
+    (λ c κs. search needs)
+    (λ c. search needs)
     sub-height
     cast-height-2
-    div-row
-    sub-result
-    returns
-    returns-2)
+    (λ c. search needs)
+    (λ c. search needs)
+    (λ c. search needs)
+    (λ c. search needs))

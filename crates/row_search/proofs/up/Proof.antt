@@ -2,12 +2,12 @@
 use native.Mathlib.Omega.{arith}
 use mathlib.Core.Path.{_≡_, sym, _∙_}
 use mathlib.Core.Bool.{true}
-use Prim.Native.Nat.{ℕ, _+_, _-_, _<_}
+use Prim.Native.Nat.{_+_, _-_, _<_}
 use lib.Signed.{leZ}
 use mir.Syntax.{w64}
 use mir.Val.{toZ, ofZ}
 use mir.Facts.{toZ-ofZ}
-use Rattle.figures.proofs.Order.{above-of}
+use Rattle.rounding.proofs.Order.{above-of}
 use Rattle.reading.specs.Tables.{column, NotNegative}
 use Rattle.reading.proofs.Within.{row-within}
 use Rattle.row_search.proofs.LastRow.{only-last}

@@ -1,11 +1,10 @@
 -- `rules::are_differences` meets its contract. Assumes nothing.
 use mathlib.Core.Path.{_≡_, _∙_}
-use lib.Dec.{lit≤}
 use lib.IntN.{_-ℤ_}
 use mir.Syntax.{w32}
 use mir.Val.{toZ, ofZ}
 use Rattle.steps.specs.Steps.{perSecond}
-use Rattle.rules.specs.Limits.{sameAs}
+use Rattle.refusals.specs.Tests.{sameAs}
 use Rattle.rules.specs.Latitude.{differencesOf, sameDifferences}
 use borrow.Author.Needs.{needs}
 use Rattle.rules.proofs.are_differences.Statement.{statement}
@@ -39,16 +38,7 @@ returns : tie.Need-returns
 unfolding sameDifferences differencesOf
 returns c = rw (y-tested (c .before .before .before .before .before .before .before .before), h-tested (c .before .before .before .before), v-tested c)
 
-is-over-minute-requires : tie.Need-is-over-minute-requires
-is-over-minute-requires c κs = search needs
-
-is-over-minute-requires-2 : tie.Need-is-over-minute-requires-2
-is-over-minute-requires-2 c κs = search needs
-
-is-over-minute-requires-3 : tie.Need-is-over-minute-requires-3
-is-over-minute-requires-3 c κs = search needs
-
 pub are-differences-spec : {M : Type 1} → statement M
 are-differences-spec =
     tie.close
-    (tie.spec is-over-minute-requires is-over-minute-requires-2 is-over-minute-requires-3 returns)
+    (tie.spec (λ c κs. search needs) (λ c κs. search needs) (λ c κs. search needs) returns)

@@ -3,7 +3,7 @@ use mathlib.Core.Path.{_≡_, _∙_}
 use lib.IntN.{pos, negℤ}
 use mir.Syntax.{w32}
 use mir.Val.{toZ, ofZ}
-use Rattle.rules.specs.Limits.{inRange}
+use Rattle.refusals.specs.Tests.{inRange}
 use Rattle.rules.specs.Latitude.{figuresInRange}
 use borrow.Author.Needs.{needs}
 use Rattle.rules.proofs.figures_in_range.Statement.{statement}
@@ -33,24 +33,12 @@ returns : tie.Need-returns
 unfolding figuresInRange
 returns c = rw (y0-tested (c .before .before .before .before .before .before), h-tested (c .before .before .before .before), v-tested (c .before .before), a-tested c)
 
-in-range-requires : tie.Need-in-range-requires
-in-range-requires c κs = search needs
-
-in-range-requires-2 : tie.Need-in-range-requires-2
-in-range-requires-2 c κs = search needs
-
-in-range-requires-3 : tie.Need-in-range-requires-3
-in-range-requires-3 c κs = search needs
-
-in-range-requires-4 : tie.Need-in-range-requires-4
-in-range-requires-4 c κs = search needs
-
 pub figures-in-range-spec : {M : Type 1} → statement M
 figures-in-range-spec =
     tie.close
     (tie.spec
-    in-range-requires
-    in-range-requires-2
-    in-range-requires-3
-    in-range-requires-4
+    (λ c κs. search needs)
+    (λ c κs. search needs)
+    (λ c κs. search needs)
+    (λ c κs. search needs)
     returns)

@@ -1,14 +1,13 @@
 -- `rules::is_over_minute` meets its contract. Assumes nothing.
-use mathlib.Core.Path.{_≡_, ap, _∙_}
-use Prim.Native.Nat.{_*_}
+use mathlib.Core.Path.{_≡_, _∙_}
 use lib.IntN.{pos, _-ℤ_, _*ℤ_}
 use mir.Syntax.{w32, w64}
 use mir.Val.{ofZ, toZ}
 use mir.Facts.{toZ-ofZ}
-use Rattle.figures.specs.Ranges.{mostScale}
-use Rattle.figures.proofs.Sizes.{difference-most}
-use Rattle.figures.proofs.Holds.{Holds, held, held-size, held-result, held-literal, size-i32, cast, cast-fits, difference, difference-fits, product, product-fits, renamed}
-use Rattle.rules.specs.Limits.{inRange}
+use Rattle.rounding.specs.Ranges.{mostScale}
+use Rattle.rounding.proofs.Sizes.{difference-most}
+use Rattle.rounding.proofs.Holds.{Holds, held, held-size, held-result, held-literal, size-i32, cast, cast-fits, difference, difference-fits, product, product-fits, renamed}
+use Rattle.refusals.specs.Tests.{inRange}
 use Rattle.rules.proofs.Sixties.{tested}
 use borrow.Author.Needs.{needs}
 use Rattle.rules.proofs.is_over_minute.Statement.{statement}
@@ -44,12 +43,6 @@ cast-off c = cast-fits (d-held c) tt
 mul-off : tie.Need-mul-off
 mul-off c = product-fits (cast (d-held c) {v = w64} tt) (held-literal w64 60 tt) tt
 
-cast-off-2 : tie.Need-cast-off-2
-cast-off-2 c = search needs
-
-rise-requires : tie.Need-rise-requires
-rise-requires c κs = search needs
-
 mul-off-2 : tie.Need-mul-off-2
 mul-off-2 c = product-fits (scale-held (c .before)) (rise-held c) tt
 
@@ -58,4 +51,4 @@ sub-off c = difference-fits (sixties (c .before)) (scaled c) tt
 
 pub is-over-minute-spec : {M : Type 1} → statement M
 is-over-minute-spec =
-    tie.close (tie.spec cast-off mul-off cast-off-2 rise-requires mul-off-2 sub-off returns)
+    tie.close (tie.spec cast-off mul-off (λ c. search needs) (λ c κs. search needs) mul-off-2 sub-off returns)

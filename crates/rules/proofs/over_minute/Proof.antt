@@ -6,8 +6,8 @@ use mir.Syntax.{w32, w64}
 use mir.Val.{ofZ}
 use mir.Facts.{toZ-ofZ}
 use Rattle.steps.specs.Steps.{perSecond}
-use Rattle.figures.specs.Ranges.{mostChange}
-use Rattle.figures.proofs.Holds.{Holds, held-result, cast, cast-fits, size-most, renamed}
+use Rattle.rounding.specs.Ranges.{mostChange}
+use Rattle.rounding.proofs.Holds.{Holds, held-result, cast, cast-fits, size-most, renamed}
 use Rattle.steps.proofs.StepBounds.{per-second-most}
 use borrow.Author.Needs.{needs}
 use Rattle.rules.proofs.over_minute.Statement.{statement}
@@ -32,9 +32,6 @@ worked c =
 returns : tie.Need-returns
 returns c = cast (worked c) {v = w32} tt .is
 
-rise-requires : tie.Need-rise-requires
-rise-requires c κs = search needs
-
 per-second-requires : tie.Need-per-second-requires
 per-second-requires c κs = (c .before .pre .0, size-most (rise-is c) tt)
 
@@ -42,4 +39,4 @@ cast-result : tie.Need-cast-result
 cast-result c = cast-fits (worked c) tt
 
 pub over-minute-spec : {M : Type 1} → statement M
-over-minute-spec = tie.close (tie.spec rise-requires per-second-requires cast-result returns)
+over-minute-spec = tie.close (tie.spec (λ c κs. search needs) per-second-requires cast-result returns)

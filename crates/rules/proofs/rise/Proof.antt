@@ -5,9 +5,9 @@ use native.Mathlib.Omega.{arith}
 use lib.IntN.{ℤ, pos, _-ℤ_, -ℤ-+ℤ-cancel}
 use mir.Syntax.{w64}
 use mir.Facts.{toZ-ofZ}
-use Rattle.figures.specs.Between.{lowered}
-use Rattle.figures.proofs.Raised.{raised-height}
-use Rattle.figures.proofs.Holds.{Holds, held-size, difference, difference-fits}
+use Rattle.rounding.specs.Between.{lowered}
+use Rattle.rounding.proofs.Raised.{raised-height}
+use Rattle.rounding.proofs.Holds.{Holds, held-size, difference, difference-fits}
 use borrow.Author.Needs.{needs}
 use Rattle.rules.proofs.rise.Statement.{statement}
 use Rattle.rules.proofs.rise.Tie as tie
@@ -33,22 +33,10 @@ module _ (c : tie.After-raised2) where
 returns : tie.Need-returns
 returns c = difference (next c) (x c) tt .is ∙ raised-rise (c .before .raised .result) (c .raised2 .result) ∙ rw (next-is c, x-is c)
 
-raised-requires : tie.Need-raised-requires
-raised-requires c κs = search needs
-
-cast-result : tie.Need-cast-result
-cast-result c = search needs
-
-raised-requires-2 : tie.Need-raised-requires-2
-raised-requires-2 c κs = search needs
-
-cast-result-2 : tie.Need-cast-result-2
-cast-result-2 c = search needs
-
 sub-result : tie.Need-sub-result
 sub-result c = difference-fits (next c) (x c) tt
 
 pub rise-spec : {M : Type 1} → statement M
 rise-spec =
     tie.close
-    (tie.spec raised-requires cast-result raised-requires-2 cast-result-2 sub-result returns)
+    (tie.spec (λ c κs. search needs) (λ c. search needs) (λ c κs. search needs) (λ c. search needs) sub-result returns)

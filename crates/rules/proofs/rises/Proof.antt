@@ -4,8 +4,9 @@ use lib.IntN.{_-ℤ_}
 use mir.Syntax.{w32, w64}
 use mir.Val.{SFits, ofZ, toZ}
 use mir.Facts.{toZ-ofZ}
-use Rattle.figures.proofs.Holds.{Holds, held, size-i32, cast, cast-fits}
-use Rattle.rules.specs.Limits.{inRange, rises}
+use Rattle.rounding.proofs.Holds.{Holds, held, size-i32, cast, cast-fits}
+use Rattle.refusals.specs.Tests.{inRange}
+use Rattle.rules.specs.Limits.{rises}
 use borrow.Author.Needs.{needs}
 use Rattle.rules.proofs.rises.Statement.{statement}
 use Rattle.rules.proofs.rises.Tie as tie
@@ -27,9 +28,6 @@ returns : tie.Need-returns
 unfolding rises inRange
 returns c = rw (up-is c, cast (least (c .before)) {v = w64} tt .is, cast (most (c .before)) {v = w64} tt .is)
 
-rise-requires : tie.Need-rise-requires
-rise-requires c κs = search needs
-
 cast-result : tie.Need-cast-result
 cast-result c = cast-fits (least (c .before)) tt
 
@@ -37,4 +35,4 @@ cast-result-2 : tie.Need-cast-result-2
 cast-result-2 c = cast-fits (most (c .before)) tt
 
 pub rises-spec : {M : Type 1} → statement M
-rises-spec = tie.close (tie.spec rise-requires cast-result cast-result-2 returns)
+rises-spec = tie.close (tie.spec (λ c κs. search needs) cast-result cast-result-2 returns)

@@ -2,7 +2,7 @@
 use mathlib.Core.Path.{_≡_, _∙_}
 use mir.Syntax.{w32}
 use mir.Val.{toZ, ofZ}
-use Rattle.rules.specs.Limits.{sameAs}
+use Rattle.refusals.specs.Tests.{sameAs}
 use Rattle.rules.specs.Latitude.{sameDifferences}
 use borrow.Author.Needs.{needs}
 use Rattle.rules.proofs.same_differences.Statement.{statement}
@@ -30,15 +30,6 @@ returns : tie.Need-returns
 unfolding sameDifferences
 returns c = rw (y-tested (c .before .before .before .before .before .before), h-tested (c .before .before .before), v-tested c)
 
-same-as-requires : tie.Need-same-as-requires
-same-as-requires c κs = search needs
-
-same-as-requires-2 : tie.Need-same-as-requires-2
-same-as-requires-2 c κs = search needs
-
-same-as-requires-3 : tie.Need-same-as-requires-3
-same-as-requires-3 c κs = search needs
-
 pub same-differences-spec : {M : Type 1} → statement M
 same-differences-spec =
-    tie.close (tie.spec same-as-requires same-as-requires-2 same-as-requires-3 returns)
+    tie.close (tie.spec (λ c κs. search needs) (λ c κs. search needs) (λ c κs. search needs) returns)

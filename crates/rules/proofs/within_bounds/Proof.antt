@@ -37,18 +37,6 @@ returns : tie.Need-returns
 unfolding withinBounds
 returns c = rw (y0-tested (c .before .before .before .before .before .before .before .before .before), h-tested (c .before .before .before .before .before .before), v-tested (c .before .before .before), a-tested c)
 
-rises-requires : tie.Need-rises-requires
-rises-requires c κs = search needs
-
-rises-requires-2 : tie.Need-rises-requires-2
-rises-requires-2 c κs = search needs
-
-rises-requires-3 : tie.Need-rises-requires-3
-rises-requires-3 c κs = search needs
-
-rises-requires-4 : tie.Need-rises-requires-4
-rises-requires-4 c κs = search needs
-
 pub within-bounds-spec : {M : Type 1} → statement M
 within-bounds-spec =
-    tie.close (tie.spec rises-requires rises-requires-2 rises-requires-3 rises-requires-4 returns)
+    tie.close (tie.spec (λ c κs. search needs) (λ c κs. search needs) (λ c κs. search needs) (λ c κs. search needs) returns)

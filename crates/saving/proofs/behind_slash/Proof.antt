@@ -10,8 +10,5 @@ returns c = search behind-it
 returns-2 : tie.Need-returns-2
 returns-2 c = search no-slash
 
-add-result : tie.Need-add-result
-add-result c = search needs
-
 pub behind-slash-spec : {M : Type 1} → statement M
-behind-slash-spec = tie.close (tie.spec add-result returns returns-2)
+behind-slash-spec = tie.close (tie.spec (λ c. search needs) returns returns-2)

@@ -7,11 +7,5 @@ use Rattle.saving.proofs.path_of.Tie as tie
 returns : tie.Need-returns
 returns c = search path-is
 
-slice-aggregate-copy : tie.Need-slice-aggregate-copy
-slice-aggregate-copy c = search needs
-
-copy-requires : tie.Need-copy-requires
-copy-requires c κs = search needs
-
 pub path-of-spec : {M : Type 1} → statement M
-path-of-spec = tie.close (tie.spec slice-aggregate-copy copy-requires returns)
+path-of-spec = tie.close (tie.spec (λ c. search needs) (λ c κs. search needs) returns)

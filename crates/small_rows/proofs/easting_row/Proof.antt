@@ -7,8 +7,8 @@ use mir.Syntax.{w32}
 use mir.Val.{toZ, ofZ}
 use Rattle.words.specs.Words.{wordAt}
 use Rattle.entries.specs.Layout.{easting, widthOf}
-use Rattle.words.proofs.Refusals.{stop, go}
-use Rattle.rules.specs.Limits.{inRange}
+use Rattle.refusals.proofs.Ladders.{stop, go}
+use Rattle.refusals.specs.Tests.{inRange}
 use Rattle.small_rows.specs.SmallRows.{zeroFirst, eastingFault}
 use borrow.Author.Needs.{needs}
 use Rattle.small_rows.proofs.easting_row.Statement.{statement}
@@ -36,19 +36,7 @@ returns-3 : tie.Need-returns-3
 unfolding eastingFault
 returns-3 c = go _ _ _ _ _ (d-ranged (c .before .before .before)) (c .before .before .if1 .left) (go _ _ _ _ _ (d-first (c .before)) (c .if2 .left) refl)
 
-mul-word : tie.Need-mul-word
-mul-word c = search needs
-
-word-requires : tie.Need-word-requires
-word-requires c κs = search needs
-
-in-range-requires : tie.Need-in-range-requires
-in-range-requires c κs = search needs
-
-zero-first-requires : tie.Need-zero-first-requires
-zero-first-requires c κs = search needs
-
 pub easting-row-spec : {M : Type 1} → statement M
 easting-row-spec =
     tie.close
-    (tie.spec mul-word word-requires in-range-requires returns zero-first-requires returns-2 returns-3)
+    (tie.spec (λ c. search needs) (λ c κs. search needs) (λ c κs. search needs) returns (λ c κs. search needs) returns-2 returns-3)

@@ -6,9 +6,10 @@ use lib.IntN.{pos, negℤ}
 use mir.Syntax.{w32}
 use mir.Val.{toZ, ofZ}
 use Rattle.words.specs.Words.{wordAt}
-use Rattle.words.proofs.Refusals.{stop, go, below, beyond}
+use Rattle.refusals.proofs.Ladders.{stop, go, below, beyond}
 use Rattle.entries.specs.Layout.{longitude, widthOf}
-use Rattle.rules.specs.Limits.{inRange, rises}
+use Rattle.refusals.specs.Tests.{inRange}
+use Rattle.rules.specs.Limits.{rises}
 use Rattle.small_rows.specs.SmallRows.{zeroFirst, longitudeFault}
 use borrow.Author.Needs.{needs}
 use Rattle.small_rows.proofs.longitude_row.Statement.{statement}
@@ -69,70 +70,28 @@ returns-7 : tie.Need-returns-7
 unfolding longitudeFault
 returns-7 c = go _ _ _ _ _ (b-ranged (c .before .before .before .before .before .before .before .before)) (c .before .before .before .before .before .before .before .if1 .left) (go _ _ _ _ _ (c-ranged (c .before .before .before .before .before .before)) (c .before .before .before .before .before .if2 .left) (go _ _ _ _ _ (b-first (c .before .before .before .before)) (c .before .before .before .if3 .left) (go _ _ _ _ _ (c-first (c .before .before)) (c .before .if4 .left) (beyond _ _ _ _ _ (c .if5 .left) refl))))
 
-mul-word : tie.Need-mul-word
-mul-word c = search needs
-
-word-requires : tie.Need-word-requires
-word-requires c κs = search needs
-
-mul-word-2 : tie.Need-mul-word-2
-mul-word-2 c = search needs
-
-add-word : tie.Need-add-word
-add-word c = search needs
-
-word-requires-2 : tie.Need-word-requires-2
-word-requires-2 c κs = search needs
-
-in-range-requires : tie.Need-in-range-requires
-in-range-requires c κs = search needs
-
-in-range-requires-2 : tie.Need-in-range-requires-2
-in-range-requires-2 c κs = search needs
-
-zero-first-requires : tie.Need-zero-first-requires
-zero-first-requires c κs = search needs
-
-zero-first-requires-2 : tie.Need-zero-first-requires-2
-zero-first-requires-2 c κs = search needs
-
-add-if5 : tie.Need-add-if5
-add-if5 c = search needs
-
-mul-word-3 : tie.Need-mul-word-3
-mul-word-3 c = search needs
-
-add-word-2 : tie.Need-add-word-2
-add-word-2 c = search needs
-
-word-requires-3 : tie.Need-word-requires-3
-word-requires-3 c κs = search needs
-
-rises-requires : tie.Need-rises-requires
-rises-requires c κs = search needs
-
 pub longitude-row-spec : {M : Type 1} → statement M
 longitude-row-spec =
     tie.close
     (tie.spec
-    mul-word
-    word-requires
-    mul-word-2
-    add-word
-    word-requires-2
-    in-range-requires
+    (λ c. search needs)
+    (λ c κs. search needs)
+    (λ c. search needs)
+    (λ c. search needs)
+    (λ c κs. search needs)
+    (λ c κs. search needs)
     returns
-    in-range-requires-2
+    (λ c κs. search needs)
     returns-2
-    zero-first-requires
+    (λ c κs. search needs)
     returns-3
-    zero-first-requires-2
+    (λ c κs. search needs)
     returns-4
-    add-if5
-    mul-word-3
-    add-word-2
-    word-requires-3
-    rises-requires
+    (λ c. search needs)
+    (λ c. search needs)
+    (λ c. search needs)
+    (λ c κs. search needs)
+    (λ c κs. search needs)
     returns-5
     returns-6
     returns-7)

@@ -1,5 +1,5 @@
 -- `small_rows::northing_row` meets its contract. Assumes nothing.
-use Rattle.words.proofs.Refusals.{stop, go}
+use Rattle.refusals.proofs.Ladders.{stop, go}
 use Rattle.small_rows.specs.SmallRows.{northingFault}
 use borrow.Author.Needs.{needs}
 use Rattle.small_rows.proofs.northing_row.Statement.{statement}
@@ -17,30 +17,15 @@ returns-3 : tie.Need-returns-3
 unfolding northingFault
 returns-3 c = search go
 
-mul-size-in : tie.Need-mul-size-in
-mul-size-in c = search needs
-
-size-in-requires : tie.Need-size-in-requires
-size-in-requires c κs = search needs
-
-mul-size-in-2 : tie.Need-mul-size-in-2
-mul-size-in-2 c = search needs
-
-add-size-in : tie.Need-add-size-in
-add-size-in c = search needs
-
-size-in-requires-2 : tie.Need-size-in-requires-2
-size-in-requires-2 c κs = search needs
-
 pub northing-row-spec : {M : Type 1} → statement M
 northing-row-spec =
     tie.close
     (tie.spec
-    mul-size-in
-    size-in-requires
+    (λ c. search needs)
+    (λ c κs. search needs)
     returns
-    mul-size-in-2
-    add-size-in
-    size-in-requires-2
+    (λ c. search needs)
+    (λ c. search needs)
+    (λ c κs. search needs)
     returns-2
     returns-3)

@@ -6,7 +6,7 @@ use lib.Dec.{leb}
 use borrow.Author.Tests.{le-leb}
 use Rattle.words.specs.Words.{wordAt}
 use Rattle.words.proofs.TwosComplement.{range-is}
-use Rattle.rules.specs.Limits.{inRange}
+use Rattle.refusals.specs.Tests.{inRange}
 use borrow.Author.Needs.{needs}
 use Rattle.small_rows.proofs.size_in.Statement.{statement}
 use Rattle.small_rows.proofs.size_in.Tie as tie
@@ -20,8 +20,5 @@ returns c =
     ∙ sym (range-is n (c .unsigned-word .ensures .1) 0 most (c .before .before .pre .1))
     ∙ rw (c .unsigned-word .ensures .0)
 
-unsigned-word-requires : tie.Need-unsigned-word-requires
-unsigned-word-requires c κs = search needs
-
 pub size-in-spec : {M : Type 1} → statement M
-size-in-spec = tie.close (tie.spec unsigned-word-requires returns)
+size-in-spec = tie.close (tie.spec (λ c κs. search needs) returns)

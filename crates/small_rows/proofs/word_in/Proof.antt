@@ -13,11 +13,5 @@ returns c =
     let read : toZ w32 (ofZ w32 (c .before .word .result)) ≡ c .before .word .result = search needs in
     c .in-range .ensures ∙ rw (low, high, read, c .before .word .ensures)
 
-word-requires : tie.Need-word-requires
-word-requires c κs = search needs
-
-in-range-requires : tie.Need-in-range-requires
-in-range-requires c κs = search needs
-
 pub word-in-spec : {M : Type 1} → statement M
-word-in-spec = tie.close (tie.spec word-requires in-range-requires returns)
+word-in-spec = tie.close (tie.spec (λ c κs. search needs) (λ c κs. search needs) returns)

@@ -1,7 +1,7 @@
 -- `small_rows::zero_first` meets its contract. Assumes nothing.
 use mathlib.Core.Path.{_∙_}
 use mir.Facts.{toZ-ofZ}
-use Rattle.words.proofs.Refusals.{below, beyond}
+use Rattle.refusals.proofs.Ladders.{below, beyond}
 use Rattle.small_rows.specs.SmallRows.{zeroFirst}
 use borrow.Author.Needs.{needs}
 use Rattle.small_rows.proofs.zero_first.Statement.{statement}
@@ -15,8 +15,5 @@ returns-2 : tie.Need-returns-2
 unfolding zeroFirst
 returns-2 c = beyond _ _ _ _ _ (c .before .if1 .left) (c .in-range .ensures ∙ rw (toZ-ofZ (c .before .before .fits .x)))
 
-in-range-requires : tie.Need-in-range-requires
-in-range-requires c κs = search needs
-
 pub zero-first-spec : {M : Type 1} → statement M
-zero-first-spec = tie.close (tie.spec returns in-range-requires returns-2)
+zero-first-spec = tie.close (tie.spec returns (λ c κs. search needs) returns-2)

@@ -8,11 +8,5 @@ returns : tie.Need-returns
 unfolding approximateL approximateLHalf
 returns c = c .nearest-size .ensures
 
-mul-nearest-size : tie.Need-mul-nearest-size
-mul-nearest-size c = search needs
-
-nearest-size-requires : tie.Need-nearest-size-requires
-nearest-size-requires c κs = search needs
-
 pub approximate-l-spec : {M : Type 1} → statement M
-approximate-l-spec = tie.close (tie.spec mul-nearest-size nearest-size-requires returns)
+approximate-l-spec = tie.close (tie.spec (λ c. search needs) (λ c κs. search needs) returns)

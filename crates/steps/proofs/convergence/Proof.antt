@@ -5,10 +5,10 @@ use lib.IntN.{pos}
 use mir.Syntax.{w64}
 use mir.Val.{ofZ}
 use Rattle.steps.specs.Steps.{convergence, convergenceHalf}
-use Rattle.figures.specs.Ranges.{mostM, mostWord}
-use Rattle.figures.proofs.Holds.{Holds, held, held-size, product-fits, product, size-most}
-use Rattle.figures.proofs.Rounding.{rounded}
-use Rattle.figures.proofs.Halves.{marked}
+use Rattle.rounding.specs.Ranges.{mostM, mostWord}
+use Rattle.rounding.proofs.Holds.{Holds, held, held-size, product-fits, product, size-most}
+use Rattle.rounding.proofs.Rounding.{rounded}
+use Rattle.rounding.proofs.Halves.{marked}
 use Rattle.steps.proofs.convergence.Statement.{statement}
 use Rattle.steps.proofs.convergence.Tie as tie
 
@@ -25,9 +25,6 @@ returns c =
     let whole = product (m (c .before)) (x (c .before)) tt in
     (rounded 100_000_000 whole (c .nearest .ensures .0), marked 100_000_000 whole (c .nearest .ensures .1))
 
-cast-nearest : tie.Need-cast-nearest
-cast-nearest c = search needs
-
 mul-nearest : tie.Need-mul-nearest
 mul-nearest c = product-fits (m c) (x c) tt
 
@@ -35,4 +32,4 @@ nearest-requires : tie.Need-nearest-requires
 nearest-requires c κs = (size-most (product (m c) (x c) tt) tt, lit< tt, lit≤ tt)
 
 pub convergence-spec : {M : Type 1} → statement M
-convergence-spec = tie.close (tie.spec cast-nearest mul-nearest nearest-requires returns)
+convergence-spec = tie.close (tie.spec (λ c. search needs) mul-nearest nearest-requires returns)

@@ -7,9 +7,9 @@ use lib.IntN.{pos}
 use mir.Syntax.{w64}
 use mir.Val.{toZ, ofZ}
 use Rattle.steps.specs.Steps.{perSecond}
-use Rattle.figures.specs.Ranges.{mostWord, mostScale}
-use Rattle.figures.proofs.Holds.{Holds, held, held-size, product-fits, product, size-most}
-use Rattle.figures.proofs.Rounding.{rounded}
+use Rattle.rounding.specs.Ranges.{mostWord, mostScale}
+use Rattle.rounding.proofs.Holds.{Holds, held, held-size, product-fits, product, size-most}
+use Rattle.rounding.proofs.Rounding.{rounded}
 use Rattle.steps.proofs.per_second.Statement.{statement}
 use Rattle.steps.proofs.per_second.Tie as tie
 
@@ -27,9 +27,6 @@ returns c =
     let value : toZ w64 (ofZ w64 (c .before .nearest .result .value)) ≡ c .before .nearest .result .value = search needs in
     value ∙ rounded 60 (product (scale start) (difference start) tt) (c .before .nearest .ensures .0)
 
-cast-nearest : tie.Need-cast-nearest
-cast-nearest c = search needs
-
 mul-nearest : tie.Need-mul-nearest
 mul-nearest c = product-fits (scale c) (difference c) tt
 
@@ -37,4 +34,4 @@ nearest-requires : tie.Need-nearest-requires
 nearest-requires c κs = (size-most (product (scale c) (difference c) tt) tt, lit< tt, lit≤ tt)
 
 pub per-second-spec : {M : Type 1} → statement M
-per-second-spec = tie.close (tie.spec cast-nearest mul-nearest nearest-requires returns)
+per-second-spec = tie.close (tie.spec (λ c. search needs) mul-nearest nearest-requires returns)

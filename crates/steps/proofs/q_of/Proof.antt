@@ -3,8 +3,8 @@ use native.Mathlib.Omega.{arith}
 use lib.Dec.{lit<, lit≤}
 use Prim.Native.Nat.{_*_, _≤_}
 use Rattle.steps.specs.Steps.{qOf, qHalf}
-use Rattle.figures.specs.Ranges.{mostS}
-use Rattle.figures.proofs.Sizes.{product-most}
+use Rattle.rounding.specs.Ranges.{mostS}
+use Rattle.rounding.proofs.Sizes.{product-most}
 use Rattle.steps.proofs.q_of.Statement.{statement}
 use Rattle.steps.proofs.q_of.Tie as tie
 

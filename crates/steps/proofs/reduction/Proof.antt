@@ -13,12 +13,12 @@ use mir.Val.{toZ, ofZ}
 use mir.Facts.{toZ-ofZ}
 use Rattle.steps.specs.Steps.{reduction, reductionHalf}
 use Rattle.steps.specs.Wide.{towardZero}
-use Rattle.figures.specs.Nearest.{nearest, onHalf}
-use Rattle.figures.specs.Ranges.{mostP, mostX, mostD}
-use Rattle.figures.proofs.Sizes.{product-most}
-use Rattle.figures.proofs.Holds.{Holds, held, held-size, held-literal, sum-fits, sum, product-fits, product, size-most, unsigned-fits, not-negative}
-use Rattle.figures.proofs.Rounding.{nearestSize-le, rounded, rounded-size}
-use Rattle.figures.proofs.Halves.{marked, marked-size}
+use Rattle.rounding.specs.Nearest.{nearest, onHalf}
+use Rattle.rounding.specs.Ranges.{mostP, mostX, mostD}
+use Rattle.rounding.proofs.Sizes.{product-most}
+use Rattle.rounding.proofs.Holds.{Holds, held, held-size, held-literal, sum-fits, sum, product-fits, product, size-most, unsigned-fits, not-negative}
+use Rattle.rounding.proofs.Rounding.{nearestSize-le, rounded, rounded-size}
+use Rattle.rounding.proofs.Halves.{marked, marked-size}
 use Rattle.steps.proofs.Splitting.{toward-size, size-toward, wide-nearest, wide-half}
 use Rattle.steps.proofs.reduction.Statement.{statement}
 use Rattle.steps.proofs.reduction.Tie as tie
@@ -79,9 +79,6 @@ add-whole c = omega (arith, high-small c, low-small c)
 
 cast-t : tie.Need-cast-t
 cast-t c = omega (arith, high-small c, low-small c)
-
-cast-t-2 : tie.Need-cast-t-2
-cast-t-2 c = search needs
 
 mul-t : tie.Need-mul-t
 mul-t c = product-fits (d c) (high c) tt
@@ -156,7 +153,7 @@ reduction-spec =
     mul-whole
     add-whole
     cast-t
-    cast-t-2
+    (λ c. search needs)
     mul-t
     add-t
     toward-zero-requires

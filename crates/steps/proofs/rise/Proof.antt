@@ -6,11 +6,11 @@ use lib.IntN.{pos}
 use mir.Syntax.{w64}
 use mir.Val.{ofZ}
 use Rattle.steps.specs.Steps.{rise, riseHalf}
-use Rattle.figures.specs.Ranges.{mostV, mostQ, mostC}
-use Rattle.figures.proofs.Sizes.{product-most}
-use Rattle.figures.proofs.Holds.{Holds, held, held-size, held-literal, sum-fits, sum, product-fits, product, size-most}
-use Rattle.figures.proofs.Rounding.{rounded}
-use Rattle.figures.proofs.Halves.{marked}
+use Rattle.rounding.specs.Ranges.{mostV, mostQ, mostC}
+use Rattle.rounding.proofs.Sizes.{product-most}
+use Rattle.rounding.proofs.Holds.{Holds, held, held-size, held-literal, sum-fits, sum, product-fits, product, size-most}
+use Rattle.rounding.proofs.Rounding.{rounded}
+use Rattle.rounding.proofs.Halves.{marked}
 use Rattle.steps.proofs.rise.Statement.{statement}
 use Rattle.steps.proofs.rise.Tie as tie
 

@@ -2,8 +2,8 @@
 use native.Mathlib.Omega.{arith}
 use Prim.Native.Nat.{_*_, _≤_}
 use Rattle.steps.specs.Steps.{seconds, secondsHalf}
-use Rattle.figures.specs.Ranges.{mostStep, mostGap}
-use Rattle.figures.proofs.Sizes.{product-most}
+use Rattle.rounding.specs.Ranges.{mostStep, mostGap}
+use Rattle.rounding.proofs.Sizes.{product-most}
 use Rattle.steps.proofs.seconds.Statement.{statement}
 use Rattle.steps.proofs.seconds.Tie as tie
 

@@ -8,11 +8,11 @@ use lib.Signed.{nonNeg}
 use mir.Syntax.{w64}
 use mir.Val.{toZ, ofZ}
 use Rattle.steps.specs.Steps.{sizeOfL, sizeOfLHalf}
-use Rattle.figures.specs.Ranges.{mostX, mostA, mostB}
-use Rattle.figures.proofs.Sizes.{times-nonNeg}
-use Rattle.figures.proofs.Holds.{Holds, held, held-size, held-literal, difference-fits, difference, product-fits, product, size-most, unsigned-fits}
-use Rattle.figures.proofs.Rounding.{rounded-size}
-use Rattle.figures.proofs.Halves.{marked-size}
+use Rattle.rounding.specs.Ranges.{mostX, mostA, mostB}
+use Rattle.rounding.proofs.Sizes.{times-nonNeg}
+use Rattle.rounding.proofs.Holds.{Holds, held, held-size, held-literal, difference-fits, difference, product-fits, product, size-most, unsigned-fits}
+use Rattle.rounding.proofs.Rounding.{rounded-size}
+use Rattle.rounding.proofs.Halves.{marked-size}
 use Rattle.steps.proofs.size_of_l.Statement.{statement}
 use Rattle.steps.proofs.size_of_l.Tie as tie
 
@@ -44,12 +44,6 @@ returns c =
     let d = c .before in
     (rounded-size (d .args .h) (whole d) (not-negative d) (c .nearest-size .ensures .0), marked-size (d .args .h) (whole d) (c .nearest-size .ensures .1))
 
-mul-rest : tie.Need-mul-rest
-mul-rest c = search needs
-
-cast-rest : tie.Need-cast-rest
-cast-rest c = search needs
-
 mul-rest-2 : tie.Need-mul-rest-2
 mul-rest-2 c = product-fits (a c) (b c) tt
 
@@ -69,8 +63,8 @@ pub size-of-l-spec : {M : Type 1} → statement M
 size-of-l-spec =
     tie.close
     (tie.spec
-    mul-rest
-    cast-rest
+    (λ c. search needs)
+    (λ c. search needs)
     mul-rest-2
     sub-rest
     mul-rest-3

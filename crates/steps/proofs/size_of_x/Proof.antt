@@ -6,11 +6,11 @@ use lib.IntN.{pos, _+ℤ_, _*ℤ_}
 use mir.Syntax.{w64}
 use mir.Val.{toZ, ofZ}
 use Rattle.steps.specs.Steps.{sizeOfX, sizeOfXHalf}
-use Rattle.figures.specs.Ranges.{mostH, mostS, mostA, mostB}
-use Rattle.figures.proofs.Sizes.{product-most}
-use Rattle.figures.proofs.Holds.{Holds, held, held-size, held-literal, sum-fits, sum, product-fits, product, size-most, unsigned-fits}
-use Rattle.figures.proofs.Rounding.{rounded-size}
-use Rattle.figures.proofs.Halves.{marked-size}
+use Rattle.rounding.specs.Ranges.{mostH, mostS, mostA, mostB}
+use Rattle.rounding.proofs.Sizes.{product-most}
+use Rattle.rounding.proofs.Holds.{Holds, held, held-size, held-literal, sum-fits, sum, product-fits, product, size-most, unsigned-fits}
+use Rattle.rounding.proofs.Rounding.{rounded-size}
+use Rattle.rounding.proofs.Halves.{marked-size}
 use Rattle.steps.proofs.size_of_x.Statement.{statement}
 use Rattle.steps.proofs.size_of_x.Tie as tie
 

@@ -3,9 +3,9 @@ use mathlib.Core.Path.{sym, ap, _∙_}
 use Prim.Native.Nat.{ℕ}
 use mir.Syntax.{w64}
 use mir.Val.{ofZ}
-use Rattle.figures.specs.Ranges.{mostNumerator}
+use Rattle.rounding.specs.Ranges.{mostNumerator}
 use Rattle.steps.specs.Wide.{towardZero}
-use Rattle.figures.proofs.Holds.{Holds, held, held-literal, sum-fits, sum}
+use Rattle.rounding.proofs.Holds.{Holds, held, held-literal, sum-fits, sum}
 use Rattle.steps.proofs.Splitting.{toward-up, toward-exact, toward-next}
 use Rattle.steps.proofs.toward_zero.Statement.{statement}
 use Rattle.steps.proofs.toward_zero.Tie as tie

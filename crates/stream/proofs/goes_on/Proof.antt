@@ -5,12 +5,9 @@ use Rattle.stream.specs.Stream.{goesOn}
 use Rattle.stream.proofs.goes_on.Statement.{statement}
 use Rattle.stream.proofs.goes_on.Tie as tie
 
-shared-slice-read-result : tie.Need-shared-slice-read-result
-shared-slice-read-result c = search needs
-
 returns : tie.Need-returns
 unfolding goesOn
 returns c = refl
 
 pub goes-on-spec : {M : Type 1} → statement M
-goes-on-spec = tie.close (tie.spec shared-slice-read-result returns)
+goes-on-spec = tie.close (tie.spec (λ c. search needs) returns)

@@ -1,5 +1,4 @@
 -- `stream::line_end` meets its contract. The loop keeps where the line ends, as it is found from i on; the bytes from i on become fewer. Assumes nothing.
-use borrow.Author.Needs.{needs}
 use native.Mathlib.Omega.{arith}
 use mathlib.Core.Path.{_≡_, refl, sym, _∙_}
 use Prim.Native.Nat.{_+_, _-_, _≤_}

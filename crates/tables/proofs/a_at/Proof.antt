@@ -2,7 +2,7 @@
 use mathlib.Core.Path.{_∙_}
 use Rattle.tables.specs.Figures.{aAt, aHalf}
 use Rattle.tables.proofs.Ranges.{minute-step, latitude-is, latitude-half-is, a-most}
-use Rattle.bodies.proofs.Known.{latitude-placed}
+use Rattle.sheet_check.proofs.Known.{latitude-placed}
 use borrow.Author.Needs.{needs}
 use Rattle.tables.proofs.a_at.Statement.{statement}
 use Rattle.tables.proofs.a_at.Tie as tie

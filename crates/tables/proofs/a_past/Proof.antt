@@ -1,6 +1,6 @@
 -- `tables::a_past` meets its contract. Assumes nothing.
 use mathlib.Core.Path.{_∙_}
-use Rattle.bodies.proofs.Known.{latitude-placed}
+use Rattle.sheet_check.proofs.Known.{latitude-placed}
 use Rattle.tables.specs.Figures.{aAt, aHalf}
 use Rattle.tables.proofs.Past.{past-within, past-words, past-is, past-half-is}
 use Rattle.tables.proofs.Ranges.{a-most}
@@ -10,12 +10,6 @@ use Rattle.tables.proofs.a_past.Tie as tie
 
 body-requires : tie.Need-body-requires
 body-requires c κs = search latitude-placed
-
-cast-past-row : tie.Need-cast-past-row
-cast-past-row c = search needs
-
-cast-past-row-2 : tie.Need-cast-past-row-2
-cast-past-row-2 c = search needs
 
 past-row-requires : tie.Need-past-row-requires
 past-row-requires c κs = search (past-words, latitude-placed, needs)
@@ -31,4 +25,4 @@ returns c =
     (e, rw e (a-most _ (p .0 .passes) _ within), c .past-row .ensures .1 ∙ past-half-is _ _ placed _ (body .0) (body .1) 7 _ _ (p .2))
 
 pub a-past-spec : {M : Type 1} → statement M
-a-past-spec = tie.close (tie.spec body-requires cast-past-row cast-past-row-2 past-row-requires returns)
+a-past-spec = tie.close (tie.spec body-requires (λ c. search needs) (λ c. search needs) past-row-requires returns)

@@ -1,7 +1,7 @@
 -- `tables::central_meridian` meets its contract. Assumes nothing.
 use Rattle.tables.specs.Figures.{centralMeridian}
 use Rattle.tables.proofs.Ranges.{zone-some, central-sign, central-size}
-use Rattle.bodies.proofs.Known.{zone-placed}
+use Rattle.sheet_check.proofs.Known.{zone-placed}
 use Rattle.tables.proofs.Answers.{signed-is}
 use borrow.Author.Needs.{needs}
 use Rattle.tables.proofs.central_meridian.Statement.{statement}

@@ -1,7 +1,7 @@
 -- `tables::false_easting` meets its contract. Assumes nothing.
 use Rattle.tables.specs.Figures.{falseEasting}
 use Rattle.tables.proofs.Ranges.{zone-some, easting-sign, easting-size}
-use Rattle.bodies.proofs.Known.{zone-placed}
+use Rattle.sheet_check.proofs.Known.{zone-placed}
 use Rattle.tables.proofs.Answers.{signed-is}
 use borrow.Author.Needs.{needs}
 use Rattle.tables.proofs.false_easting.Statement.{statement}

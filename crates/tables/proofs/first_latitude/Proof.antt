@@ -3,11 +3,11 @@ use mathlib.Core.Path.{ap, _∙_}
 use mir.Syntax.{w64}
 use mir.Val.{ofZ}
 use lib.IntN.{ℤ, pos, _*ℤ_}
-use Rattle.figures.proofs.Holds.{Holds, held-result, held-literal, product, product-fits}
+use Rattle.rounding.proofs.Holds.{Holds, held-result, held-literal, product, product-fits}
 use Rattle.entries.specs.Layout.{oneMinute}
 use Rattle.tables.specs.Figures.{firstLatitude}
 use Rattle.tables.proofs.Ranges.{latitude-some, minute-size, minute-sign, first-most}
-use Rattle.bodies.proofs.Known.{latitude-placed}
+use Rattle.sheet_check.proofs.Known.{latitude-placed}
 use borrow.Author.Needs.{needs}
 use Rattle.tables.proofs.first_latitude.Statement.{statement}
 use Rattle.tables.proofs.first_latitude.Tie as tie
@@ -26,11 +26,8 @@ returns c =
 figure-of-requires : tie.Need-figure-of-requires
 figure-of-requires c κs = search (latitude-placed, latitude-some, minute-sign, needs)
 
-cast-result : tie.Need-cast-result
-cast-result c = search needs
-
 mul-result : tie.Need-mul-result
 mul-result c = product-fits (minute c) (held-literal w64 oneMinute tt) tt
 
 pub first-latitude-spec : {M : Type 1} → statement M
-first-latitude-spec = tie.close (tie.spec figure-of-requires cast-result mul-result returns)
+first-latitude-spec = tie.close (tie.spec figure-of-requires (λ c. search needs) mul-result returns)

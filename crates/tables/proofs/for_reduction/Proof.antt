@@ -1,12 +1,12 @@
 -- `tables::for_reduction` meets its contract. Assumes nothing.
 use mathlib.Core.Path.{_≡_}
 use lib.Dec.{eqb}
-use Rattle.figures.proofs.Tests.{both}
+use Rattle.rounding.proofs.Tests.{both}
 use Rattle.tables.specs.Figures.{pAt, pHalf, dAt, dHalf}
 use Rattle.tables.proofs.Parts.{found-step, place-step}
 use Rattle.tables.proofs.Ranges.{p-between, p-rows, d-between}
 use Rattle.tables.proofs.Answers.{read-is, read-high}
-use Rattle.bodies.proofs.Known.{northing-placed, easting-placed}
+use Rattle.sheet_check.proofs.Known.{northing-placed, easting-placed}
 use borrow.Author.Needs.{needs}
 use borrow.Author.Tests.{eqb-true}
 use Rattle.tables.proofs.for_reduction.Statement.{statement}
@@ -40,12 +40,6 @@ returns-2 c =
     let d = c .value-by2 .ensures in
     (read-is (p .0) h, read-high (p .0) h, p .1, d .0, rw (d .0) (d-between _ (k .0 .passes) _ (k .2)), d .1)
 
-usual-step-requires : tie.Need-usual-step-requires
-usual-step-requires c κs = search needs
-
-usual-step-requires-2 : tie.Need-usual-step-requires-2
-usual-step-requires-2 c κs = search needs
-
 size-by-requires : tie.Need-size-by-requires
 size-by-requires c κs =
     let north = found c .0 in
@@ -66,8 +60,8 @@ pub for-reduction-spec : {M : Type 1} → statement M
 for-reduction-spec =
     tie.close
     (tie.spec
-    usual-step-requires
-    usual-step-requires-2
+    (λ c κs. search needs)
+    (λ c κs. search needs)
     size-by-requires
     value-by-requires
     returns

@@ -2,7 +2,7 @@
 use mathlib.Core.Path.{_∙_}
 use Rattle.tables.specs.Figures.{hAt, hHalf}
 use Rattle.tables.proofs.Ranges.{minute-step, latitude-is, latitude-half-is, h-between, h-rows}
-use Rattle.bodies.proofs.Known.{latitude-placed}
+use Rattle.sheet_check.proofs.Known.{latitude-placed}
 use Rattle.tables.proofs.Answers.{read-is, read-low, read-high}
 use borrow.Author.Needs.{needs}
 use Rattle.tables.proofs.h_at.Statement.{statement}

@@ -1,6 +1,6 @@
 -- `tables::h_past` meets its contract. Assumes nothing.
 use mathlib.Core.Path.{_∙_}
-use Rattle.bodies.proofs.Known.{latitude-placed}
+use Rattle.sheet_check.proofs.Known.{latitude-placed}
 use Rattle.tables.specs.Figures.{hAt, hHalf}
 use Rattle.tables.proofs.Past.{past-within, past-words, past-sizes, past-is, past-half-is}
 use Rattle.tables.proofs.Ranges.{h-between, h-rows}
@@ -11,12 +11,6 @@ use Rattle.tables.proofs.h_past.Tie as tie
 
 body-requires : tie.Need-body-requires
 body-requires c κs = search latitude-placed
-
-cast-size-past-row : tie.Need-cast-size-past-row
-cast-size-past-row c = search needs
-
-cast-size-past-row-2 : tie.Need-cast-size-past-row-2
-cast-size-past-row-2 c = search needs
 
 size-past-row-requires : tie.Need-size-past-row-requires
 size-past-row-requires c κs =
@@ -36,4 +30,4 @@ returns c =
     (read-is e h, read-low e h, read-high e h, c .size-past-row .ensures .1 ∙ past-half-is _ _ placed _ (body .0) (body .1) 3 _ _ (p .2))
 
 pub h-past-spec : {M : Type 1} → statement M
-h-past-spec = tie.close (tie.spec body-requires cast-size-past-row cast-size-past-row-2 size-past-row-requires returns)
+h-past-spec = tie.close (tie.spec body-requires (λ c. search needs) (λ c. search needs) size-past-row-requires returns)

@@ -4,13 +4,10 @@ use Rattle.tables.specs.Figures.{kAt, kHalf}
 use Rattle.tables.proofs.Parts.{found-step, place-step}
 use Rattle.tables.proofs.Ranges.{k-between, k-rows}
 use Rattle.tables.proofs.Answers.{read-small}
-use Rattle.bodies.proofs.Known.{scale-placed}
+use Rattle.sheet_check.proofs.Known.{scale-placed}
 use borrow.Author.Needs.{needs}
 use Rattle.tables.proofs.k_at.Statement.{statement}
 use Rattle.tables.proofs.k_at.Tie as tie
-
-usual-step-requires : tie.Need-usual-step-requires
-usual-step-requires c κs = search needs
 
 size-by-requires : tie.Need-size-by-requires
 size-by-requires c κs = search (scale-placed, found-step, k-rows, needs)
@@ -50,7 +47,7 @@ pub k-at-spec : {M : Type 1} → statement M
 k-at-spec =
     tie.close
     (tie.spec
-    usual-step-requires
+    (λ c κs. search needs)
     size-by-requires
     signed-requires
     returns

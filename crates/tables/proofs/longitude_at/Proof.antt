@@ -2,13 +2,10 @@
 use Rattle.tables.specs.Figures.{bAt, bHalf, cAt, cHalf}
 use Rattle.tables.proofs.Parts.{found-step, place-step}
 use Rattle.tables.proofs.Ranges.{b-between, c-between}
-use Rattle.bodies.proofs.Known.{longitude-placed}
+use Rattle.sheet_check.proofs.Known.{longitude-placed}
 use borrow.Author.Needs.{needs}
 use Rattle.tables.proofs.longitude_at.Statement.{statement}
 use Rattle.tables.proofs.longitude_at.Tie as tie
-
-usual-step-requires : tie.Need-usual-step-requires
-usual-step-requires c κs = search needs
 
 value-by-requires : tie.Need-value-by-requires
 value-by-requires c κs = search (longitude-placed, found-step, needs)
@@ -42,7 +39,7 @@ pub longitude-at-spec : {M : Type 1} → statement M
 longitude-at-spec =
     tie.close
     (tie.spec
-    usual-step-requires
+    (λ c κs. search needs)
     value-by-requires
     value-by-requires-2
     returns

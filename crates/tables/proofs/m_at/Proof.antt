@@ -3,13 +3,10 @@ use Rattle.tables.specs.Figures.{mAt, mHalf}
 use Rattle.tables.proofs.Parts.{found-step, place-step}
 use Rattle.tables.proofs.Ranges.{m-between, m-rows}
 use Rattle.tables.proofs.Answers.{read-is, read-high}
-use Rattle.bodies.proofs.Known.{northing-placed}
+use Rattle.sheet_check.proofs.Known.{northing-placed}
 use borrow.Author.Needs.{needs}
 use Rattle.tables.proofs.m_at.Statement.{statement}
 use Rattle.tables.proofs.m_at.Tie as tie
-
-usual-step-requires : tie.Need-usual-step-requires
-usual-step-requires c κs = search needs
 
 size-by-requires : tie.Need-size-by-requires
 size-by-requires c κs = search (northing-placed, found-step, m-rows, needs)
@@ -36,4 +33,4 @@ returns-2 c =
 pub m-at-spec : {M : Type 1} → statement M
 m-at-spec =
     tie.close
-    (tie.spec usual-step-requires size-by-requires returns size-by-requires-2 returns-2)
+    (tie.spec (λ c κs. search needs) size-by-requires returns size-by-requires-2 returns-2)

@@ -6,11 +6,8 @@ use borrow.Author.Needs.{needs}
 use Rattle.tables.proofs.signed.Statement.{statement}
 use Rattle.tables.proofs.signed.Tie as tie
 
-cast-t2 : tie.Need-cast-t2
-cast-t2 c = search needs
-
 returns : tie.Need-returns
 returns c = (toZ-pos w64 (c .before .pre), refl)
 
 pub signed-spec : {M : Type 1} → statement M
-signed-spec = tie.close (tie.spec cast-t2 returns)
+signed-spec = tie.close (tie.spec (λ c. search needs) returns)

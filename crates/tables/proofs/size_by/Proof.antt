@@ -4,12 +4,6 @@ use borrow.Author.Needs.{needs}
 use Rattle.tables.proofs.size_by.Statement.{statement}
 use Rattle.tables.proofs.size_by.Tie as tie
 
-body-requires : tie.Need-body-requires
-body-requires c κs = search needs
-
-width-of-requires : tie.Need-width-of-requires
-width-of-requires c κs = search needs
-
 cast-size-at : tie.Need-cast-size-at
 cast-size-at c = search step-fits
 
@@ -23,4 +17,4 @@ returns : tie.Need-returns
 returns c = search (value-is, half-is)
 
 pub size-by-spec : {M : Type 1} → statement M
-size-by-spec = tie.close (tie.spec body-requires width-of-requires cast-size-at cast-size-at-2 size-at-requires returns)
+size-by-spec = tie.close (tie.spec (λ c κs. search needs) (λ c κs. search needs) cast-size-at cast-size-at-2 size-at-requires returns)

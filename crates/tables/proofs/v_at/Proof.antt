@@ -2,7 +2,7 @@
 use mathlib.Core.Path.{_∙_}
 use Rattle.tables.specs.Figures.{vAt, vHalf}
 use Rattle.tables.proofs.Ranges.{minute-step, latitude-is, latitude-half-is, v-between, v-rows}
-use Rattle.bodies.proofs.Known.{latitude-placed}
+use Rattle.sheet_check.proofs.Known.{latitude-placed}
 use Rattle.tables.proofs.Answers.{read-is, read-high}
 use borrow.Author.Needs.{needs}
 use Rattle.tables.proofs.v_at.Statement.{statement}

@@ -4,12 +4,6 @@ use borrow.Author.Needs.{needs}
 use Rattle.tables.proofs.value_by.Statement.{statement}
 use Rattle.tables.proofs.value_by.Tie as tie
 
-body-requires : tie.Need-body-requires
-body-requires c κs = search needs
-
-width-of-requires : tie.Need-width-of-requires
-width-of-requires c κs = search needs
-
 cast-value-at : tie.Need-cast-value-at
 cast-value-at c = search step-fits
 
@@ -23,4 +17,4 @@ returns : tie.Need-returns
 returns c = search (value-is, half-is)
 
 pub value-by-spec : {M : Type 1} → statement M
-value-by-spec = tie.close (tie.spec body-requires width-of-requires cast-value-at cast-value-at-2 value-at-requires returns)
+value-by-spec = tie.close (tie.spec (λ c κs. search needs) (λ c κs. search needs) cast-value-at cast-value-at-2 value-at-requires returns)

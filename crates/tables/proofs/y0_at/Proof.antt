@@ -3,7 +3,7 @@ use mathlib.Core.Path.{_∙_}
 use Rattle.tables.specs.Figures.{y0At, y0Half}
 use Rattle.tables.proofs.Ranges.{minute-step, latitude-is, latitude-half-is, y0-between, y0-rows}
 use Rattle.tables.proofs.Answers.{read-small}
-use Rattle.bodies.proofs.Known.{latitude-placed}
+use Rattle.sheet_check.proofs.Known.{latitude-placed}
 use borrow.Author.Needs.{needs}
 use Rattle.tables.proofs.y0_at.Statement.{statement}
 use Rattle.tables.proofs.y0_at.Tie as tie

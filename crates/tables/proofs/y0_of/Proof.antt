@@ -1,7 +1,7 @@
 -- `tables::y0_of` meets its contract. Assumes nothing.
 use Rattle.tables.specs.Figures.{y0Of}
 use Rattle.tables.proofs.Ranges.{y0-sign, y0-size}
-use Rattle.bodies.proofs.Known.{latitude-placed}
+use Rattle.sheet_check.proofs.Known.{latitude-placed}
 use Rattle.tables.proofs.Answers.{signed-is}
 use borrow.Author.Needs.{needs}
 use Rattle.tables.proofs.y0_of.Statement.{statement}

@@ -3,8 +3,8 @@ use mathlib.Core.Path.{_≡_}
 use native.Mathlib.Omega.{arith}
 use mir.Syntax.{w64}
 use mir.Val.{toZ, ofZ}
-use Rattle.figures.proofs.Holds.{held-literal, difference, difference-fits}
-use Rattle.figures.proofs.Bits.{bits-is}
+use Rattle.rounding.proofs.Holds.{held-literal, difference, difference-fits}
+use Rattle.rounding.proofs.Bits.{bits-is}
 use Rattle.rules.specs.Latitude.{mostRise}
 use Rattle.touched.proofs.Beside.{above-is, from-least, two-rows, y0-held}
 use borrow.Author.Needs.{needs}
@@ -23,20 +23,8 @@ returns-2 c =
     let same : toZ w64 (ofZ w64 (start .args .reduced)) ≡ start .args .reduced = search needs in
     from-least _ _ _ _ _ same (c .before .if1 .left) (difference (y0-held (c .y0-of2 .ok) (c .y0-of2 .ensures)) (held-literal w64 mostRise tt) tt .is)
 
-sub-y0-of : tie.Need-sub-y0-of
-sub-y0-of c = search needs
-
-y0-of-requires : tie.Need-y0-of-requires
-y0-of-requires c κs = search needs
-
-add-y0-of : tie.Need-add-y0-of
-add-y0-of c = search needs
-
 y0-of-requires-2 : tie.Need-y0-of-requires-2
 y0-of-requires-2 c κs = let p = c .before .before .pre in (p .0, omega (arith, two-rows _ (p .0 .passes), c .if1 .left))
-
-cast-result : tie.Need-cast-result
-cast-result c = search needs
 
 sub-result : tie.Need-sub-result
 sub-result c = difference-fits (y0-held (c .y0-of2 .ok) (c .y0-of2 .ensures)) (held-literal w64 mostRise tt) tt
@@ -44,4 +32,4 @@ sub-result c = difference-fits (y0-held (c .y0-of2 .ok) (c .y0-of2 .ensures)) (h
 pub above-prior-spec : {M : Type 1} → statement M
 above-prior-spec =
     tie.close
-    (tie.spec sub-y0-of y0-of-requires returns add-y0-of y0-of-requires-2 cast-result sub-result returns-2)
+    (tie.spec (λ c. search needs) (λ c κs. search needs) returns (λ c. search needs) y0-of-requires-2 (λ c. search needs) sub-result returns-2)

@@ -5,12 +5,12 @@ use native.Mathlib.Omega.{arith}
 use denote.Ref.{now}
 use mir.Syntax.{w64}
 use mir.Val.{toZ, ofZ}
-use Rattle.figures.proofs.Holds.{held-literal, sum, sum-fits}
+use Rattle.rounding.proofs.Holds.{held-literal, sum, sum-fits}
 use Rattle.rules.specs.Latitude.{mostRise}
 use Rattle.entries.specs.Layout.{latitude}
 use Rattle.entries.specs.Entries.{rowsOf}
 use Rattle.extent.proofs.Counts.{count-is}
-use Rattle.figures.proofs.Bits.{bits-is}
+use Rattle.rounding.proofs.Bits.{bits-is}
 use Rattle.touched.proofs.Beside.{below-is, to-greatest, next-fits, two-rows, y0-held}
 use borrow.Author.Needs.{needs}
 use Rattle.touched.proofs.below_next.Statement.{statement}
@@ -38,20 +38,11 @@ returns-2 c =
 add-if1 : tie.Need-add-if1
 add-if1 c = let p = c .before .pre in next-fits _ (p .0 .passes) _ (p .1)
 
-add-y0-of : tie.Need-add-y0-of
-add-y0-of c = search needs
-
 y0-of-requires : tie.Need-y0-of-requires
 y0-of-requires c κs = let p = c .before .before .before .pre in (p .0, next-row c)
 
 sub-y0-of : tie.Need-sub-y0-of
 sub-y0-of c = let p = c .before .before .before .pre in omega (arith, two-rows _ (p .0 .passes), last-row c)
-
-y0-of-requires-2 : tie.Need-y0-of-requires-2
-y0-of-requires-2 c κs = search needs
-
-cast-result : tie.Need-cast-result
-cast-result c = search needs
 
 add-result : tie.Need-add-result
 add-result c = sum-fits (y0-held (c .y0-of2 .ok) (c .y0-of2 .ensures)) (held-literal w64 mostRise tt) tt
@@ -61,11 +52,11 @@ below-next-spec =
     tie.close
     (tie.spec
     add-if1
-    add-y0-of
+    (λ c. search needs)
     y0-of-requires
     returns
     sub-y0-of
-    y0-of-requires-2
-    cast-result
+    (λ c κs. search needs)
+    (λ c. search needs)
     add-result
     returns-2)

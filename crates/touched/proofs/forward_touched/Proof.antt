@@ -26,12 +26,6 @@ returns-2 c =
     let west : toZ w32 (ofZ w32 (start .args .longitude)) ≡ start .args .longitude = search needs in
     geographic-passes _ _ _ _ (start .pre .passes) _ (found (c .before .before)) (c .before .if1 .left) _ (c .may-move-plane .ensures ∙ rw (minute-is start, north, west))
 
-has-minute-requires : tie.Need-has-minute-requires
-has-minute-requires c κs = search needs
-
-may-move-plane-requires : tie.Need-may-move-plane-requires
-may-move-plane-requires c κs = search needs
-
 pub forward-touched-spec : {M : Type 1} → statement M
 forward-touched-spec =
-    tie.close (tie.spec has-minute-requires returns may-move-plane-requires returns-2)
+    tie.close (tie.spec (λ c κs. search needs) returns (λ c κs. search needs) returns-2)

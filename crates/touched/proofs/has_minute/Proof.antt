@@ -2,7 +2,7 @@
 use mathlib.Core.Path.{_≡_}
 use mir.Syntax.{w32}
 use mir.Val.{toZ, ofZ}
-use Rattle.bodies.proofs.Known.{latitude-placed}
+use Rattle.sheet_check.proofs.Known.{latitude-placed}
 use Rattle.tables.proofs.Northings.{lent-some}
 use Rattle.touched.proofs.ByMinute.{lent-holds, minute-found}
 use borrow.Author.Needs.{needs}

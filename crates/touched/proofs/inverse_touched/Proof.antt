@@ -3,8 +3,8 @@ use mathlib.Core.Path.{_≡_, ap, _∙_}
 use denote.Ref.{now}
 use mir.Syntax.{w32}
 use mir.Val.{toZ, ofZ}
-use Rattle.words.proofs.Refusals.{kept}
-use Rattle.figures.proofs.Bits.{both-same}
+use Rattle.refusals.proofs.Ladders.{kept}
+use Rattle.rounding.proofs.Bits.{both-same}
 use Rattle.touched.specs.Touched.{hasMinute, rowNamed, inverseTouched}
 use Rattle.touched.proofs.Answered.{plane-none, plane-passes}
 use borrow.Author.Needs.{needs}
@@ -31,18 +31,12 @@ returns-2 c =
     let y : toZ w32 (ofZ w32 (start .args .y)) ≡ start .args .y = search needs in
     plane-passes _ _ _ _ (start .pre .passes) _ (found (c .before .before .before)) (c .before .before .if1 .left) _ _ (row-is (c .before)) (c .may-move-earth .ensures ∙ both-same (inverseTouched _ _) x y)
 
-has-minute-requires : tie.Need-has-minute-requires
-has-minute-requires c κs = search needs
-
 row-named-requires : tie.Need-row-named-requires
 row-named-requires c κs =
     let p = c .before .before .before .pre in
     (p, kept _ _ (c .before .has-minute .ensures) (c .if1 .left))
 
-may-move-earth-requires : tie.Need-may-move-earth-requires
-may-move-earth-requires c κs = search needs
-
 pub inverse-touched-spec : {M : Type 1} → statement M
 inverse-touched-spec =
     tie.close
-    (tie.spec has-minute-requires returns row-named-requires may-move-earth-requires returns-2)
+    (tie.spec (λ c κs. search needs) returns row-named-requires (λ c κs. search needs) returns-2)

@@ -4,11 +4,11 @@ use lib.IntN.{natAbs}
 use denote.Ref.{now}
 use mir.Syntax.{w32, w64}
 use mir.Val.{toZ, ofZ}
-use Rattle.words.proofs.Refusals.{stop, go, kept}
+use Rattle.refusals.proofs.Ladders.{stop, go, kept}
 use Rattle.extent.specs.Extent.{xPrime, eastingKnown, northingKnown}
 use Rattle.extent.proofs.Reach.{easting-within}
 use Rattle.inverse.specs.Inverse.{reducedNorthing}
-use Rattle.figures.proofs.Bits.{bits-is, bits-below}
+use Rattle.rounding.proofs.Bits.{bits-is, bits-below}
 use Rattle.touched.specs.Touched.{inverseTouched}
 use Rattle.touched.proofs.Beside.{beside-is}
 use borrow.Author.Needs.{needs}
@@ -55,18 +55,6 @@ returns-3 c =
     (go _ _ _ _ _ (northing-is (found .before .before .before)) (found .before .before .if2 .left)
     (beside-is _ _ _ _ (reduced-is found) _ _ (c .before .above-prior .ensures) (c .below-next .ensures)))
 
-origin-of-requires : tie.Need-origin-of-requires
-origin-of-requires c κs = search needs
-
-x-prime-requires : tie.Need-x-prime-requires
-x-prime-requires c κs = search needs
-
-easting-known-requires : tie.Need-easting-known-requires
-easting-known-requires c κs = search needs
-
-northing-known-requires : tie.Need-northing-known-requires
-northing-known-requires c κs = search needs
-
 size-requires : tie.Need-size-requires
 size-requires c κs = let xp = c .before .before .before .before .x-prime in bits-below (xp .result) (xp .ok) (xp .ensures .1) tt
 
@@ -76,24 +64,18 @@ reduced-northing-requires c κs =
     let easting = kept _ _ (c .before .before .before .before .easting-known .ensures) (c .before .before .before .if1 .left) in
     (p .0, rw (c .size .ensures) (easting-within _ _ easting), kept _ _ (c .before .before .northing-known .ensures) (c .before .if2 .left))
 
-above-prior-requires : tie.Need-above-prior-requires
-above-prior-requires c κs = search needs
-
-below-next-requires : tie.Need-below-next-requires
-below-next-requires c κs = search needs
-
 pub may-move-earth-spec : {M : Type 1} → statement M
 may-move-earth-spec =
     tie.close
     (tie.spec
-    origin-of-requires
-    x-prime-requires
-    easting-known-requires
+    (λ c κs. search needs)
+    (λ c κs. search needs)
+    (λ c κs. search needs)
     returns
-    northing-known-requires
+    (λ c κs. search needs)
     returns-2
     size-requires
     reduced-northing-requires
-    above-prior-requires
-    below-next-requires
+    (λ c κs. search needs)
+    (λ c κs. search needs)
     returns-3)

@@ -3,9 +3,9 @@ use mathlib.Core.Path.{_≡_, ap, _∙_}
 use denote.Ref.{now}
 use mir.Syntax.{w32}
 use mir.Val.{toZ, ofZ}
-use Rattle.words.proofs.Refusals.{stop, go}
+use Rattle.refusals.proofs.Ladders.{stop, go}
 use Rattle.extent.specs.Extent.{latitudeKnown, longitudeKnown}
-use Rattle.figures.proofs.Bits.{both-same}
+use Rattle.rounding.proofs.Bits.{both-same}
 use Rattle.touched.specs.Touched.{nearRow, forwardTouched}
 use borrow.Author.Needs.{needs}
 use Rattle.touched.proofs.may_move_plane.Statement.{statement}
@@ -40,26 +40,14 @@ returns-3 c =
     go _ _ _ _ _ (latitude-is (c .before .before .before .before)) (c .before .before .before .if1 .left)
     (go _ _ _ _ _ (longitude-is (c .before .before)) (c .before .if2 .left) (c .near-row .ensures ∙ both-same nearRow minute (north-is start)))
 
-origin-of-requires : tie.Need-origin-of-requires
-origin-of-requires c κs = search needs
-
-latitude-known-requires : tie.Need-latitude-known-requires
-latitude-known-requires c κs = search needs
-
-longitude-known-requires : tie.Need-longitude-known-requires
-longitude-known-requires c κs = search needs
-
-near-row-requires : tie.Need-near-row-requires
-near-row-requires c κs = search needs
-
 pub may-move-plane-spec : {M : Type 1} → statement M
 may-move-plane-spec =
     tie.close
     (tie.spec
-    origin-of-requires
-    latitude-known-requires
+    (λ c κs. search needs)
+    (λ c κs. search needs)
     returns
-    longitude-known-requires
+    (λ c κs. search needs)
     returns-2
-    near-row-requires
+    (λ c κs. search needs)
     returns-3)

@@ -4,7 +4,7 @@ use Prim.Native.Nat.{ℕ}
 use lib.Dec.{ltb}
 use lib.IntN.{pos, natAbs}
 use mir.Syntax.{w64}
-use Rattle.figures.proofs.Holds.{Holds, held-literal, product, product-fits, difference, difference-fits, size-below}
+use Rattle.rounding.proofs.Holds.{Holds, held-literal, product, product-fits, difference, difference-fits, size-below}
 use Rattle.entries.specs.Layout.{oneMinute}
 use Rattle.extent.proofs.Points.{wide, wide-fits}
 use Rattle.touched.specs.Touched.{nearRow}
@@ -28,9 +28,6 @@ cast-size c = wide-fits (c .fits .latitude)
 cast-size-2 : tie.Need-cast-size-2
 cast-size-2 c = wide-fits (c .fits .minute)
 
-cast-size-3 : tie.Need-cast-size-3
-cast-size-3 c = search needs
-
 mul-size : tie.Need-mul-size
 mul-size c = product-fits (wide (c .fits .minute)) step tt
 
@@ -41,4 +38,4 @@ size-requires : tie.Need-size-requires
 size-requires c κs = size-below (difference (wide (c .fits .latitude)) (product (wide (c .fits .minute)) step tt) tt) tt
 
 pub near-row-spec : {M : Type 1} → statement M
-near-row-spec = tie.close (tie.spec cast-size cast-size-2 cast-size-3 mul-size sub-size size-requires returns)
+near-row-spec = tie.close (tie.spec cast-size cast-size-2 (λ c. search needs) mul-size sub-size size-requires returns)

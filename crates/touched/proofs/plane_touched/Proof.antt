@@ -19,9 +19,6 @@ returns-2 c =
     let three : toZ w32 (ofZ w32 (start .args .y)) ≡ start .args .y = search needs in
     c .inverse-touched .ensures ∙ rw (one, two, three)
 
-check-requires : tie.Need-check-requires
-check-requires c κs = search needs
-
 places-of-requires : tie.Need-places-of-requires
 places-of-requires c κs = sheet-long _ (sym (ap (λ v. v .number) (c .before .check .ensures)) ∙ c .if1 .left)
 
@@ -31,4 +28,4 @@ inverse-touched-requires c κs = record { passes = sym (ap (λ v. v .number) (c 
 pub plane-touched-spec : {M : Type 1} → statement M
 plane-touched-spec =
     tie.close
-    (tie.spec check-requires returns places-of-requires inverse-touched-requires returns-2)
+    (tie.spec (λ c κs. search needs) returns places-of-requires inverse-touched-requires returns-2)

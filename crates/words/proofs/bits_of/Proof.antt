@@ -5,7 +5,7 @@ use mir.Syntax.{w32, w64}
 use mir.Val.{ofZ, toZ}
 use Prim.Native.Nat.{_≤_}
 use native.Mathlib.Nat.{le-of-suc-le-suc}
-use Rattle.figures.proofs.Holds.{Holds, held, held-literal, size-i32, cast-fits, cast, sum-fits, sum, unsigned-fits, unsigned, rebounded}
+use Rattle.rounding.proofs.Holds.{Holds, held, held-literal, size-i32, cast-fits, cast, sum-fits, sum, unsigned-fits, unsigned, rebounded}
 use Rattle.words.specs.Words.{bits32}
 use Rattle.words.proofs.TwosComplement.{bits32-small, bits32-below, bits32-not-below}
 use Rattle.words.proofs.bits_of.Statement.{statement}

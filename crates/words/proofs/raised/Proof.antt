@@ -15,14 +15,5 @@ returns c =
     let bits : n ≡ bits32 (b .args .v) = c .bits-of .ensures .0 ∙ ap bits32 (toZ-ofZ (b .fits .v)) in
     (raised-lowered n (c .bits-of .ensures .1) ∙ ap signed32 bits ∙ signed32-bits32 (b .args .v) (b .fits .v), omega arith)
 
-bits-of-requires : tie.Need-bits-of-requires
-bits-of-requires c κs = search needs
-
-cast-result : tie.Need-cast-result
-cast-result c = search needs
-
-add-result : tie.Need-add-result
-add-result c = search needs
-
 pub raised-spec : {M : Type 1} → statement M
-raised-spec = tie.close (tie.spec bits-of-requires cast-result add-result returns)
+raised-spec = tie.close (tie.spec (λ c κs. search needs) (λ c. search needs) (λ c. search needs) returns)

@@ -13,14 +13,5 @@ returns c =
     let n = c .unsigned-word .result in
     (raised-lowered n (c .unsigned-word .ensures .1) ∙ ap signed32 (c .unsigned-word .ensures .0), omega arith)
 
-unsigned-word-requires : tie.Need-unsigned-word-requires
-unsigned-word-requires c κs = search needs
-
-cast-result : tie.Need-cast-result
-cast-result c = search needs
-
-add-result : tie.Need-add-result
-add-result c = search needs
-
 pub raised-word-spec : {M : Type 1} → statement M
-raised-word-spec = tie.close (tie.spec unsigned-word-requires cast-result add-result returns)
+raised-word-spec = tie.close (tie.spec (λ c κs. search needs) (λ c. search needs) (λ c. search needs) returns)

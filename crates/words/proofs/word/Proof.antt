@@ -6,7 +6,7 @@ use Prim.Native.Nat.{_≤_}
 use lib.IntN.{pos, _-ℤ_}
 use mir.Syntax.{w32, w64}
 use mir.Val.{SFits}
-use Rattle.figures.proofs.Holds.{Holds, held-size, held-literal, difference-fits, difference, cast-fits-of, cast-of}
+use Rattle.rounding.proofs.Holds.{Holds, held-size, held-literal, difference-fits, difference, cast-fits-of, cast-of}
 use Rattle.words.specs.Words.{signed32, wordAt}
 use Rattle.words.proofs.TwosComplement.{signed32-low, signed32-high, signed32-fits}
 use Rattle.words.proofs.word.Statement.{statement}
@@ -35,15 +35,6 @@ returns-2 c =
     ∙ sym (signed32-high (c .if1 .left))
     ∙ ap signed32 (c .before .unsigned-word .ensures .0)
 
-unsigned-word-requires : tie.Need-unsigned-word-requires
-unsigned-word-requires c κs = search needs
-
-cast-result : tie.Need-cast-result
-cast-result c = search needs
-
-cast-result-2 : tie.Need-cast-result-2
-cast-result-2 c = search needs
-
 sub-result : tie.Need-sub-result
 sub-result c = difference-fits (n c) (held-literal w64 4_294_967_296 tt) tt
 
@@ -54,9 +45,9 @@ pub word-spec : {M : Type 1} → statement M
 word-spec =
     tie.close
     (tie.spec
-    unsigned-word-requires
-    cast-result
-    cast-result-2
+    (λ c κs. search needs)
+    (λ c. search needs)
+    (λ c. search needs)
     sub-result
     cast-result-3
     returns

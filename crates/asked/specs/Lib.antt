@@ -1,2 +1,0 @@
--- What a line asks.
-pub mod Asked

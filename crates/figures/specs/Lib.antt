@@ -1,4 +1,0 @@
--- The definitions that the contracts of `figures` cite: rounding and reading between rows, and the ranges of what is rounded.
-pub mod Nearest
-pub mod Between
-pub mod Ranges

@@ -1,2 +1,0 @@
--- The definitions of the correction program's line.
-pub mod NewRow

@@ -1,0 +1,2 @@
+-- What a line asks.
+pub mod PointLine

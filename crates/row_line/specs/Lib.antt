@@ -1,0 +1,2 @@
+-- The definitions of the correction program's line.
+pub mod RowLine

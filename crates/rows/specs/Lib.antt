@@ -1,2 +1,0 @@
--- The definitions that `rows` and the crates above it cite: the fault of a latitude row.
-pub mod Rows
