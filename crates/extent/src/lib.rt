@@ -1,15 +1,17 @@
 // How far a sheet that passes the check reaches: where a point stands in its tables, and whether that is within their rows, as numbers 10 to 14 ask.
 use entries::Place;
 use entries::Places;
+use reading::At;
 use tables::Origin;
 ghost use mathlib.Core.Path.{_≡_};
 ghost use Prim.Native.Nat.{_≤_};
 ghost use lib.IntN.{natAbs};
-ghost use Rattle.entries.specs.Entries.{rowsOf, stepOf};
+ghost use Rattle.entries.specs.Layout.{leastRows};
+ghost use Rattle.entries.specs.Entries.{rowsOf, stepOf, Within};
 ghost use Rattle.contents.specs.Contents.{Placed};
 ghost use Rattle.sheet_check.specs.Check.{checkOf, KnownToPass};
-ghost use Rattle.reading.specs.Tables.{withinRows};
-ghost use Rattle.tables.specs.Figures.{originOf};
+ghost use Rattle.reading.specs.Tables.{withinRows, offsetOf};
+ghost use Rattle.tables.specs.Figures.{InTable, originOf};
 ghost use Rattle.extent.specs.Extent.{fromFirst, latitudeKnown, lOf, sizeKnown, longitudeKnown, xPrime, eastingKnown, scaleKnown, northingKnown, reducedKnown};
 
 // Whether z lies from row 0 of the kind's body to its last row. `place` is that body's.
@@ -18,6 +20,18 @@ fn within(s: &[u8], place: Place, kind: usize, z: i64) -> bool
     ensures { λ r. ⌜ r ≡ withinRows (rowsOf (now (s .entry)) kind) (stepOf (now (s .entry)) kind) z ⌝ }
 {
     reading::within_rows(place.rows, place.step, z)
+}
+
+// The place of an offset in the kind's table, worked once for all that is read there. `place` is that of its body. The usual step is tested for, and given as a constant.
+pub fn position(s: &[u8], place: Place, kind: usize, offset: u64) -> At
+    requires { ⌜ Placed (now s) kind place × (2 ≤ leastRows kind) × Within (now s) kind offset ⌝ }
+    ensures { λ r. ⌜ InTable (now (s .entry)) kind r × (offsetOf r ≡ offset) ⌝ }
+{
+    let usual = entries::usual_step(kind);
+    if place.step == usual {
+        return reading::at_offset(place.rows, usual as u32, offset as u32);
+    }
+    reading::at_offset(place.rows, place.step as u32, offset as u32)
 }
 
 // The latitude's distance from row 0, in 0.001″.

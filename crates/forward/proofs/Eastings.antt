@@ -1,6 +1,5 @@
 -- Geographic to plane on a sheet that passes: the size of x′ is not negative, and x and y fit 32 bits. Assumes nothing.
-use mathlib.Core.Path.{_≡_, ap, _∙_}
-use mathlib.Core.Bool.{Bool, _||_}
+use mathlib.Core.Path.{_≡_, refl, ap, _∙_}
 use mathlib.Core.List.{List}
 use Prim.Native.Nat.{ℕ, _*_, _≤_}
 use native.Mathlib.Nat.{le-trans, mul-le-mul-right}
@@ -9,8 +8,8 @@ use lib.Dec.{T}
 use lib.IntN.{ℤ, pos, natAbs, _+ℤ_, _*ℤ_}
 use lib.Signed.{nonNeg}
 use Rattle.rounding.specs.Nearest.{withSign}
-use Rattle.rounding.specs.Ranges.{mostH, mostV, mostA, mostS}
-use Rattle.steps.specs.Steps.{qOf, qHalf, sizeOfX, sizeOfXHalf, rise, riseHalf}
+use Rattle.rounding.specs.Ranges.{mostH, mostV, mostA, mostB, mostS}
+use Rattle.steps.specs.Steps.{qOf, sizeOfX, rise}
 use Rattle.rounding.proofs.Sizes.{Size, size-from, sum-nonNeg, size-product, size-withSign, sum-most, product-most}
 use Rattle.steps.proofs.StepBounds.{q-most, x-size-most, rise-most}
 use Rattle.entries.specs.Layout.{latitude, longitude}
@@ -18,38 +17,38 @@ use Rattle.entries.specs.Entries.{Within}
 use Rattle.sheet_check.specs.Check.{checkOf}
 use Rattle.tables.specs.Figures.{falseEasting, y0At, y0Half, hAt, hHalf, vAt, vHalf, aAt, aHalf, bAt, bHalf, cAt, cHalf}
 use Rattle.tables.proofs.Ranges.{easting-size, y0-between, h-between, h-least, v-between, a-most, b-between, b-slope, c-between}
-use Rattle.extent.proofs.Reach.{longitude-span}
 use Rattle.extent.specs.Extent.{fromFirst, lOf}
-use Rattle.forward.specs.Forward.{plane, xSize, xOf, xHalf, yOf, yHalf, planeFrom, planeAt}
+use Rattle.extent.proofs.Reach.{longitude-span}
+use Rattle.forward.specs.declared.Taken.{Taken}
+use Rattle.forward.specs.Forward.{xSize, xOf, xHalf, yOf, yHalf, planeFrom, planeAt, takenAt, workedX, workedXHalf, workedY, workedYHalf, workedOf, Workable}
 
--- ---- the steps, from the figures as they were read: a′, b′ and c′ have the bits of a, b and c
-module _ (s : List ℕ) (t size : ℕ) where
-  pub x-worked : {h : ℕ} {a a′ b b′ : ℤ} → h ≡ hAt s t → a′ ≡ a → a ≡ aAt s t → b′ ≡ b → b ≡ bAt s size → sizeOfX h size a′ b′ ≡ xSize s t size
-  unfolding xSize
-  x-worked p e f g k = rw (e ∙ f, g ∙ k, p)
+-- ---- the two halves are the whole
+pub taken-worked : (s : List ℕ) (t : ℕ) (l : ℤ) → workedOf (takenAt s t (natAbs l)) (falseEasting s) l ≡ planeFrom s t l
+unfolding workedOf takenAt workedX workedY workedXHalf workedYHalf planeFrom xOf yOf xHalf yHalf xSize
+taken-worked s t l = refl
 
-  pub x-marked : {h : ℕ} {a a′ b b′ : ℤ} {fh fa fb fx : Bool} → h ≡ hAt s t → a′ ≡ a → a ≡ aAt s t → b′ ≡ b → b ≡ bAt s size
-      → fh ≡ hHalf s t → fa ≡ aHalf s t → fb ≡ bHalf s size → fx ≡ sizeOfXHalf h size a′ b′ → (fh || fa || fb || fx) ≡ xHalf s t size
-  unfolding xHalf
-  x-marked p e f g k mh ma mb mx = rw (mx, mh, ma, mb, e ∙ f, g ∙ k, p)
+-- of a point: f are the figures at t from row 0 and at n, and l and e have the bits of L and C
+pub plane-worked : (s : List ℕ) (north west : ℤ) {f : Taken} {e l : ℤ} {t n : ℕ} → f ≡ takenAt s t n → t ≡ natAbs (fromFirst s north) → n ≡ natAbs l → e ≡ falseEasting s → l ≡ lOf s west
+    → workedOf f e l ≡ planeAt s north west
+unfolding planeAt
+plane-worked s north west p q r g h = rw (p, q, r, g, h) (taken-worked s (natAbs (fromFirst s north)) (lOf s west))
 
-  pub y-marked : {v q : ℕ} {c c′ : ℤ} {fy fv fc fq fr : Bool} → v ≡ vAt s t → q ≡ qOf size → c′ ≡ c → c ≡ cAt s size
-      → fy ≡ y0Half s t → fv ≡ vHalf s t → fc ≡ cHalf s size → fq ≡ qHalf size → fr ≡ riseHalf v q c′ → (fy || fv || fc || fq || fr) ≡ yHalf s t size
-  unfolding yHalf
-  y-marked p e f g my mv mc mq mr = rw (mr, my, mv, mc, mq, f ∙ g, e, p)
+-- the figures, as they were read
+pub taken-is : (s : List ℕ) (t size : ℕ) (f : Taken) → f .y0 .value ≡ y0At s t → f .y0 .half ≡ y0Half s t → f .h .value ≡ hAt s t → f .h .half ≡ hHalf s t
+    → f .v .value ≡ vAt s t → f .v .half ≡ vHalf s t → f .a .value ≡ aAt s t → f .a .half ≡ aHalf s t
+    → f .b .value ≡ bAt s size → f .b .half ≡ bHalf s size → f .c .value ≡ cAt s size → f .c .half ≡ cHalf s size → f ≡ takenAt s t size
+unfolding takenAt
+taken-is s t size f y0 y0′ h h′ v v′ a a′ b b′ c c′ = rw (← y0, ← y0′, ← h, ← h′, ← v, ← v′, ← a, ← a′, ← b, ← b′, ← c, ← c′)
 
-  pub rise-worked : {v q : ℕ} {c c′ : ℤ} → v ≡ vAt s t → q ≡ qOf size → c′ ≡ c → c ≡ cAt s size → rise v q c′ ≡ rise (vAt s t) (qOf size) (cAt s size)
-  rise-worked p e f g = rw (f ∙ g, e, p)
+-- ---- the work, of figures that may be worked
+module _ (f : Taken) (easting l : ℤ) (ok : Workable f easting l) where
+  pub size-most : natAbs (sizeOfX (f .h .value) (natAbs l) (f .a .value) (f .b .value)) ≤ 61_204_000
+  size-most = x-size-most (f .h .value) (natAbs l) (f .a .value) (f .b .value) (ok .h-most) (ok .l-most) (ok .a-most) (ok .b-most)
 
--- n is the size of L, and l′ and x′ have the bits of L and of the size of x′
-pub sign-worked : (s : List ℕ) (t : ℕ) (l : ℤ) {n : ℕ} {l′ x x′ : ℤ} → l′ ≡ l → n ≡ natAbs l → x′ ≡ x → x ≡ xSize s t n → withSign l′ x′ ≡ withSign l (xSize s t (natAbs l))
-sign-worked s t l p q e f = rw (e ∙ f, q, p)
-
--- n is the size of L, t the latitude's distance, and x′, y′ and l′ have the bits of x, y and L
-pub plane-worked : (s : List ℕ) (north west : ℤ) {t n : ℕ} {x x′ y y′ l′ : ℤ} {fx fy : Bool} → t ≡ natAbs (fromFirst s north) → l′ ≡ lOf s west → n ≡ natAbs l′
-    → x′ ≡ x → x ≡ xOf s t l′ → y′ ≡ y → y ≡ yOf s t n → fx ≡ xHalf s t (natAbs l′) → fy ≡ yHalf s t n → plane 0 x′ y′ (fx || fy) ≡ planeAt s north west
-unfolding planeAt planeFrom
-plane-worked s north west p q r e f g k mx my = rw (e ∙ f, g ∙ k, mx, my, r, q, p)
+  -- what the step asks; n is the size of L, and a and b have the bits of f's
+  pub x-asks : {n : ℕ} {a b : ℤ} → n ≡ natAbs l → a ≡ f .a .value → b ≡ f .b .value
+      → (f .h .value ≤ mostH) × (n ≤ mostS) × (natAbs a ≤ mostA) × (natAbs b ≤ mostB) × T (nonNeg (pos (f .h .value * n) +ℤ a *ℤ b *ℤ pos 1_000))
+  x-asks e p q = rw (e, p, q) (ok .h-most, ok .l-most, ok .a-most, ok .b-most, ok .not-negative)
 
 -- ---- at a place within the tables
 module _ (s : List ℕ) (z : checkOf s .number ≡ 0) (t : ℕ) (ht : Within s latitude t) where
@@ -84,10 +83,6 @@ module _ (s : List ℕ) (z : checkOf s .number ≡ 0) (t : ℕ) (ht : Within s l
         sum-nonNeg (hAt s t * size) (aAt s t *ℤ bAt s size *ℤ pos 1_000)
         (omega (arith, ab, product-most mostA size (a-most s z t ht) (b-slope s z size hl), mul-le-mul-right size (h-least s z t ht)))
 
-    -- the same of the figures as they were read
-    pub x-asked : {h : ℕ} {a a′ b b′ : ℤ} → h ≡ hAt s t → a′ ≡ a → a ≡ aAt s t → b′ ≡ b → b ≡ bAt s size → T (nonNeg (pos (h * size) +ℤ a′ *ℤ b′ *ℤ pos 1_000))
-    x-asked p e f g k = rw (e ∙ f, g ∙ k, p) x-not-negative
-
     -- y fits 32 bits
     pub y-most : natAbs (yOf s t size) ≤ 1_000_504_199
     unfolding yOf
@@ -100,3 +95,18 @@ module _ (s : List ℕ) (z : checkOf s .number ≡ 0) (t : ℕ) (ht : Within s l
       sum-most (withSign l (xSize s t (natAbs l))) (falseEasting s) {A = 61_204_000} {B = 100_000_000}
       (rw (size-withSign l (xSize s t (natAbs l))) (x-size (natAbs l) hl))
       (easting-size s z .high)
+
+  -- what was read may be worked
+  pub taken-workable : (l : ℤ) → Within s longitude (natAbs l) → Workable (takenAt s t (natAbs l)) (falseEasting s) l
+  unfolding takenAt
+  taken-workable l hl = record {
+    h-most = h-most;
+    v-most = v-most;
+    a-most = a-most s z t ht;
+    b-most = b-between s z (natAbs l) hl;
+    c-most = c-between s z (natAbs l) hl;
+    y0-most = y0-between s z t ht .high;
+    easting-most = easting-size s z .high;
+    l-most = s-most (natAbs l) hl;
+    not-negative = x-not-negative (natAbs l) hl;
+  }

@@ -1,14 +1,18 @@
 -- "Geographic to plane." Latitude and longitude in 0.001″, x and y in 0.01 ft. s is the sheet.
 use mathlib.Core.Bool.{Bool, false, _||_}
 use mathlib.Core.List.{List}
-use Prim.Native.Nat.{ℕ}
-use lib.IntN.{ℤ, pos, natAbs, _+ℤ_}
+use Prim.Native.Nat.{ℕ, _*_, _≤_}
+use lib.Dec.{T}
+use lib.IntN.{ℤ, pos, natAbs, _+ℤ_, _*ℤ_}
+use lib.Signed.{nonNeg}
 use Rattle.rounding.specs.Nearest.{withSign}
+use Rattle.rounding.specs.Ranges.{mostH, mostV, mostA, mostB, mostC, mostS}
 use Rattle.steps.specs.Steps.{qOf, qHalf, sizeOfX, sizeOfXHalf, rise, riseHalf}
 use Rattle.refusals.specs.Ladder.{need}
 use Rattle.tables.specs.Figures.{falseEasting, y0At, y0Half, hAt, hHalf, vAt, vHalf, aAt, aHalf, bAt, bHalf, cAt, cHalf}
 use Rattle.extent.specs.Extent.{fromFirst, latitudeKnown, lOf, longitudeKnown}
 use Rattle.forward.specs.declared.Plane.{Plane}
+use Rattle.forward.specs.declared.Taken.{Taken}
 
 -- The answer: x and y, in 0.01 ft, and whether "some rounding in it met a half (no in a refusal)". "A refused conversion carries zeros."
 abbrev pub plane : ℕ → ℤ → ℤ → Bool → Plane
@@ -50,3 +54,44 @@ forwardOf s north west =
     need (latitudeKnown s north) (noPlane 10)
     (need (longitudeKnown s west) (noPlane 11)
     (planeAt s north west))
+
+-- ---- the same in two halves: the figures as they are read, and the work on figures alone, which other ways to the figures share
+-- "From latitude take y0, H, V, a; from s take b, c."
+unfoldable pub takenAt : List ℕ → ℕ → ℕ → Taken
+takenAt s t size = record {
+  y0 = record { value = y0At s t; half = y0Half s t };
+  h = record { value = hAt s t; half = hHalf s t };
+  v = record { value = vAt s t; half = vHalf s t };
+  a = record { value = aAt s t; half = aHalf s t };
+  b = record { value = bAt s size; half = bHalf s size };
+  c = record { value = cAt s size; half = cHalf s size };
+}
+
+-- x and y of the figures f, with their marks. `easting` is C.
+unfoldable pub workedX : Taken → ℤ → ℤ → ℤ
+workedX f easting l = withSign l (sizeOfX (f .h .value) (natAbs l) (f .a .value) (f .b .value)) +ℤ easting
+
+unfoldable pub workedY : Taken → ℕ → ℤ
+workedY f size = f .y0 .value +ℤ rise (f .v .value) (qOf size) (f .c .value)
+
+unfoldable pub workedXHalf : Taken → ℕ → Bool
+workedXHalf f size = f .h .half || f .a .half || f .b .half || sizeOfXHalf (f .h .value) size (f .a .value) (f .b .value)
+
+unfoldable pub workedYHalf : Taken → ℕ → Bool
+workedYHalf f size = f .y0 .half || f .v .half || f .c .half || qHalf size || riseHalf (f .v .value) (qOf size) (f .c .value)
+
+-- The point on the plane. That it is `planeFrom` of a sheet's figures, `Eastings.taken-worked` proves.
+unfoldable pub workedOf : Taken → ℤ → ℤ → Plane
+workedOf f easting l = plane 0 (workedX f easting l) (workedY f (natAbs l)) (workedXHalf f (natAbs l) || workedYHalf f (natAbs l))
+
+-- What the work asks of its figures, of C and of L: the ranges of a sheet that passes, and H·s + a·b not below zero.
+pub record Workable (f : Taken) (easting l : ℤ) : Type 0 where
+  pub h-most : f .h .value ≤ mostH
+  pub v-most : f .v .value ≤ mostV
+  pub a-most : natAbs (f .a .value) ≤ mostA
+  pub b-most : natAbs (f .b .value) ≤ mostB
+  pub c-most : natAbs (f .c .value) ≤ mostC
+  pub y0-most : natAbs (f .y0 .value) ≤ 999_999_999
+  pub easting-most : natAbs easting ≤ 100_000_000
+  pub l-most : natAbs l ≤ mostS
+  pub not-negative : T (nonNeg (pos (f .h .value * natAbs l) +ℤ f .a .value *ℤ f .b .value *ℤ pos 1_000))

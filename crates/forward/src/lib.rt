@@ -1,17 +1,20 @@
 // Geographic to plane, on a sheet known to pass, with its places in hand: 10, 11, or x and y.
 use entries::Places;
+use reading::At;
 use rounding::Rounded;
+use rounding::RoundedSize;
 use tables::Origin;
 ghost use mathlib.Core.Path.{_≡_};
 ghost use mathlib.Core.Bool.{true};
 ghost use Prim.Native.Nat.{_≤_};
 ghost use lib.IntN.{natAbs};
+ghost use Rattle.rounding.specs.Ranges.{mostV, mostC, mostS};
 ghost use Rattle.entries.specs.Layout.{latitude, longitude};
-ghost use Rattle.entries.specs.Entries.{Within};
 ghost use Rattle.sheet_check.specs.Check.{KnownToPass};
-ghost use Rattle.tables.specs.Figures.{originOf, bAt, bHalf, cAt, cHalf};
+ghost use Rattle.reading.specs.Tables.{offsetOf};
+ghost use Rattle.tables.specs.Figures.{InTable, originOf};
 ghost use Rattle.extent.specs.Extent.{latitudeKnown, longitudeKnown};
-ghost use Rattle.forward.specs.Forward.{xSize, xOf, xHalf, yOf, yHalf, planeAt, forwardOf};
+ghost use Rattle.forward.specs.Forward.{planeAt, forwardOf, takenAt, workedX, workedXHalf, workedY, workedYHalf, workedOf, Workable};
 
 // A point on the plane: x and y in 0.01 ft, and whether some rounding on the way to them met a half. A refusal has its number, zeros and no half.
 pub struct Plane {
@@ -21,65 +24,81 @@ pub struct Plane {
     pub half: bool,
 }
 
-// The size of x′, in 0.01 ft, at the latitude's distance t from row 0 and the size of L, with b read there.
-fn x_size(s: &[u8], p: Places, t: u64, size: u64, b: Rounded) -> Rounded
-    requires { ⌜ KnownToPass (now s) p × Within (now s) latitude t × Within (now s) longitude size × (b .value ≡ bAt (now s) size) × (b .half ≡ bHalf (now s) size) ⌝ }
-    ensures { λ r. ⌜ (r .value ≡ xSize (now (s .entry)) t size) × (natAbs (r .value) ≤ 61_204_000) × (r .half ≡ xHalf (now (s .entry)) t size) ⌝ }
+// The figures that a point is worked from, as they were read: y0, H, V and a at its latitude, b and c at the size of L.
+pub struct Taken {
+    pub y0: Rounded,
+    pub h: RoundedSize,
+    pub v: RoundedSize,
+    pub a: Rounded,
+    pub b: Rounded,
+    pub c: Rounded,
+}
+
+// Reading: the figures at the latitude's place and at that of the size of L.
+fn taken_at(s: &[u8], p: Places, north: At, west: At) -> Taken
+    requires { ⌜ KnownToPass (now s) p × InTable (now s) latitude north × InTable (now s) longitude west ⌝ }
+    ensures { λ r. ⌜ r ≡ takenAt (now (s .entry)) (offsetOf north) (offsetOf west) ⌝ }
 {
-    let h = tables::h_at(s, p, t);
-    let a = tables::a_at(s, p, t);
-    let x = steps::size_of_x(h.value, size, a.value, b.value);
-    Rounded {
-        value: x.value as i64,
-        half: h.half | a.half | b.half | x.half,
+    Taken {
+        c: tables::c_at(s, p, west),
+        b: tables::b_at(s, p, west),
+        h: tables::h_at(s, p, north),
+        a: tables::a_at(s, p, north),
+        v: tables::v_at(s, p, north),
+        y0: tables::y0_at(s, p, north),
     }
 }
 
-// x, in 0.01 ft, with b read at the size of L.
-fn x_of(s: &[u8], p: Places, o: Origin, t: u64, l: i64, b: Rounded) -> Rounded
-    requires { ⌜ KnownToPass (now s) p × (o ≡ originOf (now s)) × Within (now s) latitude t × Within (now s) longitude (natAbs l) × (b .value ≡ bAt (now s) (natAbs l)) × (b .half ≡ bHalf (now s) (natAbs l)) ⌝ }
-    ensures { λ r. ⌜ (r .value ≡ xOf (now (s .entry)) t l) × (natAbs (r .value) ≤ 161_204_000) × (r .half ≡ xHalf (now (s .entry)) t (natAbs l)) ⌝ }
+// Working: x, in 0.01 ft.
+fn x_of(f: Taken, easting: i64, l: i64) -> Rounded
+    requires { ⌜ Workable f easting l ⌝ }
+    ensures { λ r. ⌜ (r .value ≡ workedX f easting l) × (natAbs (r .value) ≤ 161_204_000) × (r .half ≡ workedXHalf f (natAbs l)) ⌝ }
 {
-    let size = x_size(s, p, t, rounding::size(l), b);
-    let x = rounding::with_sign(l, size.value);
+    let x = steps::size_of_x(f.h.value, rounding::size(l), f.a.value, f.b.value);
     Rounded {
-        value: x + o.false_easting,
-        half: size.half,
+        value: rounding::with_sign(l, x.value as i64) + easting,
+        half: f.h.half | f.a.half | f.b.half | x.half,
     }
 }
 
-// y, in 0.01 ft, with c read at the size of L.
-fn y_of(s: &[u8], p: Places, t: u64, size: u64, c: Rounded) -> Rounded
-    requires { ⌜ KnownToPass (now s) p × Within (now s) latitude t × Within (now s) longitude size × (c .value ≡ cAt (now s) size) × (c .half ≡ cHalf (now s) size) ⌝ }
-    ensures { λ r. ⌜ (r .value ≡ yOf (now (s .entry)) t size) × (natAbs (r .value) ≤ 1_000_504_199) × (r .half ≡ yHalf (now (s .entry)) t size) ⌝ }
+// Working: y, in 0.01 ft, at the size of L.
+fn y_of(f: Taken, size: u64) -> Rounded
+    requires { ⌜ (f .v .value ≤ mostV) × (natAbs (f .c .value) ≤ mostC) × (natAbs (f .y0 .value) ≤ 999_999_999) × (size ≤ mostS) ⌝ }
+    ensures { λ r. ⌜ (r .value ≡ workedY f size) × (natAbs (r .value) ≤ 1_000_504_199) × (r .half ≡ workedYHalf f size) ⌝ }
 {
-    let v = tables::v_at(s, p, t);
     let q = steps::q_of(size);
-    let y0 = tables::y0_at(s, p, t);
-    let rise = steps::rise(v.value, q.value, c.value);
+    let rise = steps::rise(f.v.value, q.value, f.c.value);
     Rounded {
-        value: y0.value + rise.value,
-        half: y0.half | v.half | c.half | q.half | rise.half,
+        value: f.y0.value + rise.value,
+        half: f.y0.half | f.v.half | f.c.half | q.half | rise.half,
     }
 }
 
-// The point on the plane, of a latitude and a longitude within the tables. What is read at the size of L comes first: it is ready when H and a are.
-fn plane_at(s: &[u8], p: Places, o: Origin, latitude: i32, longitude: i32) -> Plane
-    requires { ⌜ KnownToPass (now s) p × (o ≡ originOf (now s)) × (latitudeKnown (now s) latitude ≡ true) × (longitudeKnown (now s) longitude ≡ true) ⌝ }
-    ensures { λ r. ⌜ r ≡ planeAt (now (s .entry)) latitude longitude ⌝ }
+// The point on the plane, worked from its figures, the false easting and L.
+pub fn worked(f: Taken, easting: i64, l: i64) -> Plane
+    requires { ⌜ Workable f easting l ⌝ }
+    ensures { λ r. ⌜ r ≡ workedOf f easting l ⌝ }
 {
-    let t = extent::from_first(s, o, latitude) as u64;
-    let l = extent::l_of(s, o, longitude);
-    let size = rounding::size(l);
-    let read = tables::longitude_at(s, p, size);
-    let x = x_of(s, p, o, t, l, read.b);
-    let y = y_of(s, p, t, size, read.c);
+    let x = x_of(f, easting, l);
+    let y = y_of(f, rounding::size(l));
     Plane {
         number: 0,
         x: x.value as i32,
         y: y.value as i32,
         half: x.half | y.half,
     }
+}
+
+// The point on the plane, of a latitude and a longitude within the tables. Each place is worked once.
+fn plane_at(s: &[u8], p: Places, o: Origin, latitude: i32, longitude: i32) -> Plane
+    requires { ⌜ KnownToPass (now s) p × (o ≡ originOf (now s)) × (latitudeKnown (now s) latitude ≡ true) × (longitudeKnown (now s) longitude ≡ true) ⌝ }
+    ensures { λ r. ⌜ r ≡ planeAt (now (s .entry)) latitude longitude ⌝ }
+{
+    let t = extent::from_first(s, o, latitude) as u64;
+    let l = extent::l_of(s, o, longitude);
+    let north = extent::position(s, p.latitude, entries::LATITUDE, t);
+    let west = extent::position(s, p.longitude, entries::LONGITUDE, rounding::size(l));
+    worked(taken_at(s, p, north, west), o.false_easting, l)
 }
 
 // Geographic to plane: 10, 11, or x and y, measured from the sheet's origin, which is read once for many points.

@@ -1,6 +1,6 @@
 -- Reading at an offset by a pair of rows: row i, the last at or before the offset that has a next, and that next. The last row of all is a whole step past the one before it.
 -- Assumes nothing.
-use mathlib.Core.Path.{_≡_, sym, ap, _∙_}
+use mathlib.Core.Path.{_≡_, refl, sym, ap, _∙_}
 use mathlib.Core.Bool.{true}
 use mathlib.Core.List.{List}
 use Prim.Native.Nat.{ℕ, _+_, _*_, _-_, _/_, _%_, _<_, _≤_, min}
@@ -15,7 +15,9 @@ use Rattle.rounding.specs.Nearest.{nearest, onHalf}
 use Rattle.rounding.specs.Between.{exactBetween, between, betweenHalf}
 use Rattle.rounding.proofs.Interval.{exact-row, exact-next}
 use Rattle.words.specs.Words.{wordAt}
-use Rattle.reading.specs.Tables.{column, pastRow, pastRowHalf, valueAt, valueHalf, NotNegative}
+use Rattle.rounding.specs.Ranges.{mostStep}
+use Rattle.reading.specs.declared.At.{At}
+use Rattle.reading.specs.Tables.{column, pastRow, pastRowHalf, valueAt, valueHalf, offsetOf, Stepped, Among, NotNegative}
 use Rattle.reading.proofs.Within.{next-within}
 
 -- the next row's word
@@ -52,9 +54,6 @@ module _ (f : ℕ → ℤ) (i past step : ℕ) (p : 0 < step) (most : past ≤ s
 
 -- ---- the pair of an offset
 module _ (n step offset i : ℕ) (two : 2 ≤ n) (p : 0 < step) (h : offset ≤ (n - 1) * step) (e : i ≡ min (offset / step) (n - 2)) where
-  pub pair-there : i + 1 < n
-  pair-there = omega arith
-
   -- its number fits where the offset does
   pub row-most : i ≤ offset
   row-most = omega (arith, div-le-self offset step)
@@ -76,20 +75,28 @@ module _ (n step offset i : ℕ) (two : 2 ≤ n) (p : 0 < step) (h : offset ≤ 
           let last : n - 1 ≡ i + 1 = omega arith in
           omega (arith, ap (λ (k : ℕ). k * step) last, add-mul i 1 step)
 
-  place : i * step + (offset - i * step) ≡ offset
-  place = omega (arith, back-most)
+  pub at-pair : step ≤ mostStep → let at : At = record { row = i; past = offset - i * step; step = step } in Among n at × (offsetOf at ≡ offset) × (at .step ≡ step)
+  at-pair most = (record { stepped = record { past = past-most; some = p; most = most }; next = omega arith }, omega (arith, back-most), refl)
 
-  pub pair-value : (f : ℕ → ℤ) → pastRow f i (offset - i * step) step ≡ valueAt f step offset
-  pair-value f = past-value f i (offset - i * step) step p past-most ∙ ap (valueAt f step) place
+-- ---- a place among n rows
+module _ (n : ℕ) (at : At) (among : Among n at) where
+  -- its offset is not past the last row
+  pub at-most : offsetOf at ≤ (n - 1) * at .step
+  at-most =
+      let rows : at .row + 1 ≤ n - 1 = omega (arith, among .next) in
+      omega (arith, mul-le-mul-right (at .step) rows, add-mul (at .row) 1 (at .step), among .stepped .past)
 
-  pub pair-half : (f : ℕ → ℤ) → pastRowHalf f i (offset - i * step) step ≡ valueHalf f step offset
-  pair-half f = past-half f i (offset - i * step) step p past-most ∙ ap (valueHalf f step) place
+  pub at-value : (f : ℕ → ℤ) → pastRow f (at .row) (at .past) (at .step) ≡ valueAt f (at .step) (offsetOf at)
+  at-value f = past-value f (at .row) (at .past) (at .step) (among .stepped .some) (among .stepped .past)
+
+  pub at-half : (f : ℕ → ℤ) → pastRowHalf f (at .row) (at .past) (at .step) ≡ valueHalf f (at .step) (offsetOf at)
+  at-half f = past-half f (at .row) (at .past) (at .step) (among .stepped .some) (among .stepped .past)
 
   -- its words lie in the body
-  pub pair-within : (b : List ℕ) (w c : ℕ) → 4 * (w * n) ≤ length b → c < w → 4 * (w * i + c + w) + 4 ≤ length b
-  pair-within b w c rows inside = next-within b w c n rows inside i (omega arith)
+  pub at-within : (b : List ℕ) (w c : ℕ) → 4 * (w * n) ≤ length b → c < w → 4 * (w * at .row + c + w) + 4 ≤ length b
+  at-within b w c rows inside = next-within b w c n rows inside (at .row) (omega (arith, among .next))
 
   -- and are not negative where no row is
-  pub pair-sizes : (f : ℕ → ℤ) → NotNegative f n → (leZ (pos 0) (f i) ≡ true) × (leZ (pos 0) (f (i + 1)) ≡ true)
+  pub at-sizes : (f : ℕ → ℤ) → NotNegative f n → (leZ (pos 0) (f (at .row)) ≡ true) × (leZ (pos 0) (f (at .row + 1)) ≡ true)
   unfolding NotNegative
-  pair-sizes f all = (all i (omega arith), all (i + 1) (omega arith))
+  at-sizes f all = (all (at .row) (omega (arith, among .next)), all (at .row + 1) (omega (arith, among .next)))

@@ -2,11 +2,13 @@
 use mathlib.Core.Path.{_≡_}
 use mathlib.Core.Bool.{Bool, true, _&&_}
 use mathlib.Core.List.{List}
-use Prim.Native.Nat.{ℕ, _+_, _-_, _*_, _/_, _%_, _<_}
+use Prim.Native.Nat.{ℕ, _+_, _-_, _*_, _/_, _%_, _<_, _≤_}
 use lib.IntN.{ℤ, pos}
 use lib.Signed.{leZ}
 use Rattle.rounding.specs.Between.{between, betweenHalf}
+use Rattle.rounding.specs.Ranges.{mostStep}
 use Rattle.words.specs.Words.{wordAt}
+use Rattle.reading.specs.declared.At.{At}
 
 -- The figure in row i of a column: `width` is the words in a row, `number` the column's number. Rows and columns count from 0.
 abbrev pub column : List ℕ → ℕ → ℕ → ℕ → ℤ
@@ -28,6 +30,20 @@ valueAt f step offset = pastRow f (offset / step) (offset % step) step
 -- Whether that met a half. At a row, the last one among them, it never does.
 unfoldable pub valueHalf : (ℕ → ℤ) → ℕ → ℕ → Bool
 valueHalf f step offset = pastRowHalf f (offset / step) (offset % step) step
+
+-- A place in a table, `At`: so much past a row, up to the whole step to the next. What is read there is the value at the place's offset from row 0.
+abbrev pub offsetOf : At → ℕ
+offsetOf at = at .row * at .step + at .past
+
+pub record Stepped (at : At) : Type 0 where
+  pub past : at .past ≤ at .step
+  pub some : 0 < at .step
+  pub most : at .step ≤ mostStep
+
+-- The place lies among n rows: its row has a next.
+pub record Among (n : ℕ) (at : At) : Type 0 where
+  pub stepped : Stepped at
+  pub next : at .row + 1 < n
 
 -- z, counted from row 0, lies from there to the last row. With n rows the last stands n − 1 steps past row 0. 10 and 13 refuse what is below or above, 11 and 12,
 -- which look at sizes, what is above.

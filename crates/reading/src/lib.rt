@@ -1,4 +1,4 @@
-// Reading tables: a column's value at an offset, and whether it was rounded from a half.
+// Reading tables: where an offset lies among the rows, a column's value there, and whether it was rounded from a half.
 use rounding::Rounded;
 use rounding::RoundedSize;
 ghost use mathlib.Core.Path.{_≡_};
@@ -8,33 +8,41 @@ ghost use lib.ListN.{length};
 ghost use lib.IntN.{pos};
 ghost use lib.Signed.{leZ};
 ghost use Rattle.rounding.specs.Ranges.{mostCount, mostStep};
-ghost use Rattle.reading.specs.Tables.{column, pastRow, pastRowHalf, valueAt, valueHalf, withinRows, NotNegative};
+ghost use Rattle.reading.specs.Tables.{column, pastRow, pastRowHalf, withinRows, offsetOf, Stepped, Among};
 
-// The value of column c at t past row i, for a body of w words in a row. There is a next row, and t is up to the step.
-pub fn past_row(b: &[u8], w: usize, c: usize, i: usize, t: u32, step: u32) -> Rounded
-    requires { ⌜ (4 * (w * i + c + w) + 4 ≤ length (now b)) × (t ≤ step) × (step ≤ mostStep) × (0 < step) ⌝ }
-    ensures { λ r. ⌜ (r .value ≡ pastRow (column (now (b .entry)) w c) i t step) × (r .half ≡ pastRowHalf (column (now (b .entry)) w c) i t step) ⌝ }
+// A place in a table: so much past a row that has a next, up to the whole step between the two. The last row is a whole step past the one before it, so that there is always a next.
+// Step and distance have 32 bits, as a word has: so products with a word are narrow ones, which some processors work faster.
+pub struct At {
+    pub row: usize,
+    pub past: u32,
+    pub step: u32,
+}
+
+// The value of column c at a place, for a body of w words in a row.
+pub fn past_row(b: &[u8], w: usize, c: usize, at: At) -> Rounded
+    requires { ⌜ Stepped at × (4 * (w * at .row + c + w) + 4 ≤ length (now b)) ⌝ }
+    ensures { λ r. ⌜ (r .value ≡ pastRow (column (now (b .entry)) w c) (at .row) (at .past) (at .step)) × (r .half ≡ pastRowHalf (column (now (b .entry)) w c) (at .row) (at .past) (at .step)) ⌝ }
 {
-    let at = w * i + c;
+    let i = w * at.row + c;
     rounding::between(
-        words::raised_word(b, at),
-        words::raised_word(b, at + w),
-        t,
-        step,
+        words::raised_word(b, i),
+        words::raised_word(b, i + w),
+        at.past,
+        at.step,
     )
 }
 
-// The same where no figure of the column is negative: the words are read without a sign.
-pub fn size_past_row(b: &[u8], w: usize, c: usize, i: usize, t: u32, step: u32) -> RoundedSize
-    requires { ⌜ (4 * (w * i + c + w) + 4 ≤ length (now b)) × (t ≤ step) × (step ≤ mostStep) × (0 < step) × (leZ (pos 0) (column (now b) w c i) ≡ true) × (leZ (pos 0) (column (now b) w c (i + 1)) ≡ true) ⌝ }
-    ensures { λ r. ⌜ (pos (r .value) ≡ pastRow (column (now (b .entry)) w c) i t step) × (r .half ≡ pastRowHalf (column (now (b .entry)) w c) i t step) ⌝ }
+// The same where neither figure is negative: the words are read without a sign.
+pub fn size_past_row(b: &[u8], w: usize, c: usize, at: At) -> RoundedSize
+    requires { ⌜ Stepped at × (4 * (w * at .row + c + w) + 4 ≤ length (now b)) × (leZ (pos 0) (column (now b) w c (at .row)) ≡ true) × (leZ (pos 0) (column (now b) w c (at .row + 1)) ≡ true) ⌝ }
+    ensures { λ r. ⌜ (pos (r .value) ≡ pastRow (column (now (b .entry)) w c) (at .row) (at .past) (at .step)) × (r .half ≡ pastRowHalf (column (now (b .entry)) w c) (at .row) (at .past) (at .step)) ⌝ }
 {
-    let at = w * i + c;
-    let u = words::unsigned_word(b, at) as u64;
-    let next = words::unsigned_word(b, at + w) as u64;
-    let weight = (step - t) as u64;
-    let next_weight = t as u64;
-    rounding::nearest_size(u * weight + next * next_weight, step as u64)
+    let first = w * at.row + c;
+    let u = words::unsigned_word(b, first) as u64;
+    let next = words::unsigned_word(b, first + w) as u64;
+    let weight = (at.step - at.past) as u64;
+    let next_weight = at.past as u64;
+    rounding::nearest_size(u * weight + next * next_weight, at.step as u64)
 }
 
 // 1 where k is beyond the last, and else 0.
@@ -52,23 +60,17 @@ fn with_next(k: usize, n: usize) -> usize
     k - beyond(k, n - 2)
 }
 
-// The value of column c of n rows at an offset from row 0. The last row is read as a whole step past the one before it, so that there is always a next.
-// Step and offset have 32 bits, as a word has: so products with a word are narrow ones, which some processors work faster.
-pub fn value_at(b: &[u8], w: usize, c: usize, n: usize, step: u32, offset: u32) -> Rounded
-    requires { ⌜ (2 ≤ n) × (4 * (w * n) ≤ length (now b)) × (c < w) × (0 < step) × (step ≤ mostStep) × (offset ≤ (n - 1) * step) ⌝ }
-    ensures { λ r. ⌜ (r .value ≡ valueAt (column (now (b .entry)) w c) step offset) × (r .half ≡ valueHalf (column (now (b .entry)) w c) step offset) ⌝ }
+// The place of an offset from row 0, among n rows a step apart.
+pub fn at_offset(n: usize, step: u32, offset: u32) -> At
+    requires { ⌜ (2 ≤ n) × (0 < step) × (step ≤ mostStep) × (offset ≤ (n - 1) * step) ⌝ }
+    ensures { λ r. ⌜ Among n r × (offsetOf r ≡ offset) × (r .step ≡ step) ⌝ }
 {
-    let i = with_next((offset / step) as usize, n);
-    past_row(b, w, c, i, offset - (i as u32) * step, step)
-}
-
-// The same where no figure of the column is negative.
-pub fn size_at(b: &[u8], w: usize, c: usize, n: usize, step: u32, offset: u32) -> RoundedSize
-    requires { ⌜ (2 ≤ n) × (4 * (w * n) ≤ length (now b)) × (c < w) × (0 < step) × (step ≤ mostStep) × (offset ≤ (n - 1) * step) × NotNegative (column (now b) w c) n ⌝ }
-    ensures { λ r. ⌜ (pos (r .value) ≡ valueAt (column (now (b .entry)) w c) step offset) × (r .half ≡ valueHalf (column (now (b .entry)) w c) step offset) ⌝ }
-{
-    let i = with_next((offset / step) as usize, n);
-    size_past_row(b, w, c, i, offset - (i as u32) * step, step)
+    let row = with_next((offset / step) as usize, n);
+    At {
+        row,
+        past: offset - (row as u32) * step,
+        step,
+    }
 }
 
 // Whether z lies from row 0 to the last row.

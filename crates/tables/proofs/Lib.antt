@@ -4,4 +4,3 @@ pub mod Ranges
 pub mod Origins
 pub mod Answers
 pub mod Northings
-pub mod Past

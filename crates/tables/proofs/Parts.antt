@@ -20,10 +20,12 @@ use Rattle.entries.specs.Entries.{rowsOf, stepOf, lastOf, bodyOf, Within}
 use Rattle.entries.proofs.ByKind.{by-kind}
 use Rattle.contents.specs.Contents.{contentsOf, Placed}
 use Rattle.contents.proofs.Passing.{passed, rows-least, rows-most, step-usual, body-within}
-use Rattle.reading.specs.Tables.{column, valueAt, valueHalf, NotNegative}
+use Rattle.reading.specs.declared.At.{At}
+use Rattle.reading.specs.Tables.{column, pastRow, pastRowHalf, offsetOf, Stepped, Among, NotNegative}
+use Rattle.reading.proofs.Pairs.{at-most, at-value, at-half, at-within, at-sizes}
 use Rattle.reading.proofs.Within.{row-within}
 use Rattle.reading.proofs.Unsigned.{word-size}
-use Rattle.tables.specs.Figures.{figureOf, figureAt, figureHalf}
+use Rattle.tables.specs.Figures.{InTable, figureOf, figureAt, figureHalf}
 
 -- ---- the step of a kind of two rows or more
 usual-most : (kind : ℕ) → 1 ≤ kind → kind ≤ lastKind → usualStep kind ≤ mostStep
@@ -41,6 +43,9 @@ usual-some =
 
 farthest-small : (kind : ℕ) → 1 ≤ kind → kind ≤ lastKind → farthest kind < 4_294_967_296
 farthest-small = by-kind (λ (k : ℕ). farthest k < 4_294_967_296) (lit< tt) (lit< tt) (lit< tt) (lit< tt) (lit< tt) (lit< tt)
+
+pub usual-fits : (kind step : ℕ) → step ≡ usualStep kind → 1 ≤ kind → kind ≤ lastKind → Fits w32 step
+usual-fits kind step e l h = rw e (record { fits = lt-of-le-of-lt (usual-most kind l h) (lit< tt) })
 
 module _ (s : List ℕ) (z : contentsOf s .number ≡ 0) (kind : ℕ) (l : 1 ≤ kind) (h : kind ≤ lastKind) where
   pub step-most : stepOf s kind ≤ mostStep
@@ -89,6 +94,10 @@ module _ (s : List ℕ) (kind : ℕ) (p : Place) (placed : Placed s kind p) wher
     unfolding lastOf
     offset-inside offset within = rw (place-rows, is-step) (within .most)
 
+    -- a place among its rows, at its step
+    pub in-table : (at : At) → Among (p .rows) at → at .step ≡ step → InTable s kind at
+    in-table at among same = record { among = rw place-rows at among; step = same ∙ is-step }
+
   -- ---- the body that was cut
   module _ (b : List ℕ) (is : b ≡ bodyOf s kind) (long : length b ≡ 4 * (p .rows * widthOf kind)) (width : ℕ) (w : width ≡ widthOf kind) where
     -- its words in all
@@ -123,21 +132,38 @@ module _ (s : List ℕ) (kind : ℕ) (p : Place) (placed : Placed s kind p) wher
           let size = word-size b (width * i + number) n q small (rw figure-word sign) in
           held-size w64 (le-of-lt small) tt .is ∙ sym size ∙ figure-word
 
-    -- what a reading at an offset asks
-    module _ (number : ℕ) where
-      pub column-inside : number < widthOf kind → number < width
-      column-inside c = rw w c
+    -- what a reading at a place asks
+    module _ (number : ℕ) (at : At) (there : InTable s kind at) where
+      among : Among (p .rows) at
+      among = rw place-rows (there .among)
 
       lent-is : column b width number ≡ figureOf s kind number
       lent-is = rw (is, w)
 
-      pub lent-sizes : NotNegative (figureOf s kind number) (rowsOf s kind) → NotNegative (column b width number) (p .rows)
-      lent-sizes all = rw (lent-is, place-rows) all
+      pub at-asks : number < widthOf kind → 4 * (width * at .row + number + width) + 4 ≤ length b
+      at-asks c = at-within (p .rows) at among b width number body-long (rw w c)
 
-      -- and what it gives, at the table's step
-      module _ (offset step : ℕ) (is-step : step ≡ stepOf s kind) where
-        pub value-is : (r : ℤ) → r ≡ valueAt (column b width number) step offset → r ≡ figureAt s kind number offset
-        value-is r q = q ∙ rw (lent-is, is-step)
+      signs : NotNegative (figureOf s kind number) (rowsOf s kind) → (leZ (pos 0) (column b width number (at .row)) ≡ true) × (leZ (pos 0) (column b width number (at .row + 1)) ≡ true)
+      signs all = at-sizes (p .rows) at among (column b width number) (rw (lent-is, place-rows) all)
 
-        pub half-is : (r : Bool) → r ≡ valueHalf (column b width number) step offset → r ≡ figureHalf s kind number offset
-        half-is r q = q ∙ rw (lent-is, is-step)
+      pub this-sign : NotNegative (figureOf s kind number) (rowsOf s kind) → leZ (pos 0) (column b width number (at .row)) ≡ true
+      this-sign all = signs all .0
+
+      pub next-sign : NotNegative (figureOf s kind number) (rowsOf s kind) → leZ (pos 0) (column b width number (at .row + 1)) ≡ true
+      next-sign all = signs all .1
+
+      -- and what it gives, with the place's step or with a number that it was found to be
+      module _ (step : ℕ) (same : at .step ≡ step) where
+        pub at-stepped : Stepped (record { row = at .row; past = at .past; step = step })
+        at-stepped = record { past = rw (← same) (there .among .stepped .past); some = rw (← same) (there .among .stepped .some); most = rw (← same) (there .among .stepped .most) }
+
+        pub value-is : (r : ℤ) → r ≡ pastRow (column b width number) (at .row) (at .past) step → r ≡ figureAt s kind number (offsetOf at)
+        value-is r q = q ∙ ap (λ (n : ℕ). pastRow (column b width number) (at .row) (at .past) n) (sym same) ∙ at-value (p .rows) at among (column b width number) ∙ rw (lent-is, there .step)
+
+        pub half-is : (r : Bool) → r ≡ pastRowHalf (column b width number) (at .row) (at .past) step → r ≡ figureHalf s kind number (offsetOf at)
+        half-is r q = q ∙ ap (λ (n : ℕ). pastRowHalf (column b width number) (at .row) (at .past) n) (sym same) ∙ at-half (p .rows) at among (column b width number) ∙ rw (lent-is, there .step)
+
+-- ---- a place in a table stands at an offset within it
+pub table-within : (s : List ℕ) (kind : ℕ) (at : At) → InTable s kind at → Within s kind (offsetOf at)
+unfolding lastOf
+table-within s kind at there = record { most = rw (← there .step) (at-most (rowsOf s kind) at (there .among)) }

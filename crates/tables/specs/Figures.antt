@@ -1,12 +1,14 @@
 -- A sheet's figures by name, at its rows and between them. s is the sheet.
 -- H, V, P and M enter the steps as sizes, ℕ: their ranges keep them from being negative. The others are ℤ. Columns count from 0, in the order of the table of kinds.
+use mathlib.Core.Path.{_≡_}
 use mathlib.Core.Bool.{Bool}
 use mathlib.Core.List.{List}
 use Prim.Native.Nat.{ℕ}
 use lib.IntN.{ℤ, pos, natAbs, _*ℤ_}
 use Rattle.entries.specs.Layout.{zone, latitude, longitude, northing, easting, scale, widthOf, oneMinute}
-use Rattle.entries.specs.Entries.{bodyOf, stepOf}
-use Rattle.reading.specs.Tables.{column, valueAt, valueHalf}
+use Rattle.entries.specs.Entries.{bodyOf, rowsOf, stepOf}
+use Rattle.reading.specs.declared.At.{At}
+use Rattle.reading.specs.Tables.{column, valueAt, valueHalf, Among}
 use Rattle.tables.specs.declared.Origin.{Origin}
 
 -- The figure in row i of a column of the kind.
@@ -27,6 +29,11 @@ figureHalf s kind number offset = valueHalf (figureOf s kind number) (stepOf s k
 
 abbrev pub latitudeHalf : List ℕ → ℕ → ℕ → Bool
 latitudeHalf s number t = valueHalf (figureOf s latitude number) oneMinute t
+
+-- A place in the kind's table: among its rows, at its step.
+pub record InTable (s : List ℕ) (kind : ℕ) (at : At) : Type 0 where
+  pub among : Among (rowsOf s kind) at
+  pub step : at .step ≡ stepOf s kind
 
 -- ---- zone: "central meridian (0.001″); false easting C (0.01 ft)"
 unfoldable pub centralMeridian : List ℕ → ℤ

@@ -1,27 +1,22 @@
 // The figures of a sheet that passes the check, by name: at its rows and between them. The sheet goes with its places, which are worked once.
 use entries::Place;
 use entries::Places;
+use reading::At;
 use rounding::Rounded;
 use rounding::RoundedSize;
 ghost use mathlib.Core.Path.{_≡_};
 ghost use mathlib.Core.Bool.{true};
-ghost use Prim.Native.Nat.{_+_, _-_, _*_, _^_, _<_, _≤_, min};
+ghost use Prim.Native.Nat.{_-_, _^_, _<_, _≤_, min};
 ghost use lib.IntN.{pos, natAbs};
 ghost use lib.Signed.{leZ};
 ghost use Rattle.rounding.specs.Ranges.{mostH, mostV, mostA, mostB, mostC, mostP, mostM, mostD};
-ghost use Rattle.entries.specs.Layout.{latitude, longitude, northing, easting, scale, widthOf, leastRows, oneMinute};
-ghost use Rattle.entries.specs.Entries.{rowsOf, stepOf, Within};
+ghost use Rattle.entries.specs.Layout.{latitude, longitude, northing, easting, scale, widthOf};
+ghost use Rattle.entries.specs.Entries.{rowsOf};
 ghost use Rattle.contents.specs.Contents.{Placed};
 ghost use Rattle.sheet_check.specs.Check.{KnownToPass};
-ghost use Rattle.reading.specs.Tables.{NotNegative};
+ghost use Rattle.reading.specs.Tables.{offsetOf, NotNegative};
 ghost use Rattle.row_search.specs.Rows.{lastNotAbove};
-ghost use Rattle.tables.specs.Figures.{figureOf, figureAt, figureHalf, centralMeridian, falseEasting, firstLatitude, originOf, y0Of, y0At, y0Half, hAt, hHalf, vAt, vHalf, aAt, aHalf, bAt, bHalf, cAt, cHalf, pAt, pHalf, mAt, mHalf, dAt, dHalf, kAt, kHalf};
-
-// A place among the latitude rows: so much past a row that has a next, in 0.001″, up to a whole minute.
-pub struct At {
-    pub row: usize,
-    pub past: u64,
-}
+ghost use Rattle.tables.specs.Figures.{InTable, figureOf, figureAt, figureHalf, centralMeridian, falseEasting, firstLatitude, originOf, y0Of, y0At, y0Half, hAt, hHalf, vAt, vHalf, aAt, aHalf, bAt, bHalf, cAt, cHalf, pAt, pHalf, mAt, mHalf, dAt, dHalf, kAt, kHalf};
 
 // What a sheet's points are measured from: the latitude of row 0 and the central meridian, in 0.001″, and the false easting C, in 0.01 ft.
 pub struct Origin {
@@ -39,43 +34,50 @@ fn figure_of(s: &[u8], place: Place, kind: usize, number: usize, i: usize) -> i6
     words::unsigned_word(b, entries::width_of(kind) * i + number) as i64
 }
 
-// The figure of a column of the kind at an offset from row 0. The step is the table's: where it is given as a constant, the compiler divides by it with a product.
-fn value_by(s: &[u8], place: Place, kind: usize, number: usize, step: u64, offset: u64) -> Rounded
-    requires { ⌜ Placed (now s) kind place × (2 ≤ leastRows kind) × (number < widthOf kind) × (step ≡ stepOf (now s) kind) × Within (now s) kind offset ⌝ }
-    ensures { λ r. ⌜ (r .value ≡ figureAt (now (s .entry)) kind number offset) × (r .half ≡ figureHalf (now (s .entry)) kind number offset) ⌝ }
+// The figure of a column of the kind at a place in its table. Where the step is the usual one it is given as a constant: the compiler then divides by it with a product.
+fn value_by(s: &[u8], place: Place, kind: usize, number: usize, at: At) -> Rounded
+    requires { ⌜ Placed (now s) kind place × (number < widthOf kind) × InTable (now s) kind at ⌝ }
+    ensures { λ r. ⌜ (r .value ≡ figureAt (now (s .entry)) kind number (offsetOf at)) × (r .half ≡ figureHalf (now (s .entry)) kind number (offsetOf at)) ⌝ }
 {
     let b = contents::body(s, place, kind);
-    reading::value_at(
-        b,
-        entries::width_of(kind),
-        number,
-        place.rows,
-        step as u32,
-        offset as u32,
-    )
+    let w = entries::width_of(kind);
+    let usual = entries::usual_step(kind) as u32;
+    if at.step == usual {
+        return reading::past_row(
+            b,
+            w,
+            number,
+            At {
+                row: at.row,
+                past: at.past,
+                step: usual,
+            },
+        );
+    }
+    reading::past_row(b, w, number, at)
 }
 
 // The same of a column in which no figure is negative.
-fn size_by(
-    s: &[u8],
-    place: Place,
-    kind: usize,
-    number: usize,
-    step: u64,
-    offset: u64,
-) -> RoundedSize
-    requires { ⌜ Placed (now s) kind place × (2 ≤ leastRows kind) × (number < widthOf kind) × (step ≡ stepOf (now s) kind) × Within (now s) kind offset × NotNegative (figureOf (now s) kind number) (rowsOf (now s) kind) ⌝ }
-    ensures { λ r. ⌜ (pos (r .value) ≡ figureAt (now (s .entry)) kind number offset) × (r .half ≡ figureHalf (now (s .entry)) kind number offset) ⌝ }
+fn size_by(s: &[u8], place: Place, kind: usize, number: usize, at: At) -> RoundedSize
+    requires { ⌜ Placed (now s) kind place × (number < widthOf kind) × InTable (now s) kind at × NotNegative (figureOf (now s) kind number) (rowsOf (now s) kind) ⌝ }
+    ensures { λ r. ⌜ (pos (r .value) ≡ figureAt (now (s .entry)) kind number (offsetOf at)) × (r .half ≡ figureHalf (now (s .entry)) kind number (offsetOf at)) ⌝ }
 {
     let b = contents::body(s, place, kind);
-    reading::size_at(
-        b,
-        entries::width_of(kind),
-        number,
-        place.rows,
-        step as u32,
-        offset as u32,
-    )
+    let w = entries::width_of(kind);
+    let usual = entries::usual_step(kind) as u32;
+    if at.step == usual {
+        return reading::size_past_row(
+            b,
+            w,
+            number,
+            At {
+                row: at.row,
+                past: at.past,
+                step: usual,
+            },
+        );
+    }
+    reading::size_past_row(b, w, number, at)
 }
 
 // A size as a number with a sign.
@@ -161,156 +163,82 @@ pub fn row_with_next(s: &[u8], p: Places, z: i64) -> usize
     row_among(s, p, p.latitude.rows - 1, z)
 }
 
-// y0 at t from row 0, in 0.01 ft.
-pub fn y0_at(s: &[u8], p: Places, t: u64) -> Rounded
-    requires { ⌜ KnownToPass (now s) p × Within (now s) latitude t ⌝ }
-    ensures { λ r. ⌜ (r .value ≡ y0At (now (s .entry)) t) × (natAbs (r .value) ≤ 999_999_999) × (r .half ≡ y0Half (now (s .entry)) t) ⌝ }
+// y0 at a latitude, in 0.01 ft. Here and below `at` is a place in the table that has the figure.
+pub fn y0_at(s: &[u8], p: Places, at: At) -> Rounded
+    requires { ⌜ KnownToPass (now s) p × InTable (now s) latitude at ⌝ }
+    ensures { λ r. ⌜ (r .value ≡ y0At (now (s .entry)) (offsetOf at)) × (natAbs (r .value) ≤ 999_999_999) × (r .half ≡ y0Half (now (s .entry)) (offsetOf at)) ⌝ }
 {
-    signed(size_by(s, p.latitude, entries::LATITUDE, 1, entries::ONE_MINUTE, t))
+    signed(size_by(s, p.latitude, entries::LATITUDE, 1, at))
 }
 
-// H at t from row 0, in 0.000001.
-pub fn h_at(s: &[u8], p: Places, t: u64) -> RoundedSize
-    requires { ⌜ KnownToPass (now s) p × Within (now s) latitude t ⌝ }
-    ensures { λ r. ⌜ (r .value ≡ hAt (now (s .entry)) t) × (30_000_000 ≤ r .value) × (r .value ≤ mostH) × (r .half ≡ hHalf (now (s .entry)) t) ⌝ }
+// H, in 0.000001.
+pub fn h_at(s: &[u8], p: Places, at: At) -> RoundedSize
+    requires { ⌜ KnownToPass (now s) p × InTable (now s) latitude at ⌝ }
+    ensures { λ r. ⌜ (r .value ≡ hAt (now (s .entry)) (offsetOf at)) × (30_000_000 ≤ r .value) × (r .value ≤ mostH) × (r .half ≡ hHalf (now (s .entry)) (offsetOf at)) ⌝ }
 {
-    size_by(s, p.latitude, entries::LATITUDE, 3, entries::ONE_MINUTE, t)
+    size_by(s, p.latitude, entries::LATITUDE, 3, at)
 }
 
-// H at a place past a row, in 0.000001. The row is known, and nothing is divided to find it.
-pub fn h_past(s: &[u8], p: Places, at: At) -> RoundedSize
-    requires { ⌜ KnownToPass (now s) p × (at .row + 1 < rowsOf (now s) latitude) × (at .past ≤ oneMinute) ⌝ }
-    ensures { λ r. ⌜ (r .value ≡ hAt (now (s .entry)) (at .row * oneMinute + at .past)) × (30_000_000 ≤ r .value) × (r .value ≤ mostH) × (r .half ≡ hHalf (now (s .entry)) (at .row * oneMinute + at .past)) ⌝ }
+// V, in 0.000001.
+pub fn v_at(s: &[u8], p: Places, at: At) -> RoundedSize
+    requires { ⌜ KnownToPass (now s) p × InTable (now s) latitude at ⌝ }
+    ensures { λ r. ⌜ (r .value ≡ vAt (now (s .entry)) (offsetOf at)) × (r .value ≤ mostV) × (r .half ≡ vHalf (now (s .entry)) (offsetOf at)) ⌝ }
 {
-    let b = contents::body(s, p.latitude, entries::LATITUDE);
-    reading::size_past_row(
-        b,
-        entries::LATITUDE_WIDTH,
-        3,
-        at.row,
-        at.past as u32,
-        entries::ONE_MINUTE as u32,
-    )
+    size_by(s, p.latitude, entries::LATITUDE, 5, at)
 }
 
-// V at t from row 0, in 0.000001.
-pub fn v_at(s: &[u8], p: Places, t: u64) -> RoundedSize
-    requires { ⌜ KnownToPass (now s) p × Within (now s) latitude t ⌝ }
-    ensures { λ r. ⌜ (r .value ≡ vAt (now (s .entry)) t) × (r .value ≤ mostV) × (r .half ≡ vHalf (now (s .entry)) t) ⌝ }
+// a, in 0.001.
+pub fn a_at(s: &[u8], p: Places, at: At) -> Rounded
+    requires { ⌜ KnownToPass (now s) p × InTable (now s) latitude at ⌝ }
+    ensures { λ r. ⌜ (r .value ≡ aAt (now (s .entry)) (offsetOf at)) × (natAbs (r .value) ≤ mostA) × (r .half ≡ aHalf (now (s .entry)) (offsetOf at)) ⌝ }
 {
-    size_by(s, p.latitude, entries::LATITUDE, 5, entries::ONE_MINUTE, t)
-}
-
-// a at t from row 0, in 0.001.
-pub fn a_at(s: &[u8], p: Places, t: u64) -> Rounded
-    requires { ⌜ KnownToPass (now s) p × Within (now s) latitude t ⌝ }
-    ensures { λ r. ⌜ (r .value ≡ aAt (now (s .entry)) t) × (natAbs (r .value) ≤ mostA) × (r .half ≡ aHalf (now (s .entry)) t) ⌝ }
-{
-    value_by(s, p.latitude, entries::LATITUDE, 7, entries::ONE_MINUTE, t)
-}
-
-// a at a place past a row, in 0.001.
-pub fn a_past(s: &[u8], p: Places, at: At) -> Rounded
-    requires { ⌜ KnownToPass (now s) p × (at .row + 1 < rowsOf (now s) latitude) × (at .past ≤ oneMinute) ⌝ }
-    ensures { λ r. ⌜ (r .value ≡ aAt (now (s .entry)) (at .row * oneMinute + at .past)) × (natAbs (r .value) ≤ mostA) × (r .half ≡ aHalf (now (s .entry)) (at .row * oneMinute + at .past)) ⌝ }
-{
-    let b = contents::body(s, p.latitude, entries::LATITUDE);
-    reading::past_row(
-        b,
-        entries::LATITUDE_WIDTH,
-        7,
-        at.row,
-        at.past as u32,
-        entries::ONE_MINUTE as u32,
-    )
-}
-
-// b in 0.001 and c in 0.001 ft, at one size of L.
-pub struct Longitude {
-    pub b: Rounded,
-    pub c: Rounded,
-}
-
-// b and c at a size of L; c is read first, since a forward point was quicker so. Here and below the usual step is tested for, and given as a constant. Each function has its own test: one
-// function with a test for all of them would be too large to be compiled in where it is called, and there the step would be no constant.
-pub fn longitude_at(s: &[u8], p: Places, size: u64) -> Longitude
-    requires { ⌜ KnownToPass (now s) p × Within (now s) longitude size ⌝ }
-    ensures { λ r. ⌜ (r .b .value ≡ bAt (now (s .entry)) size) × (natAbs (r .b .value) ≤ mostB) × (r .b .half ≡ bHalf (now (s .entry)) size) × (r .c .value ≡ cAt (now (s .entry)) size) × (natAbs (r .c .value) ≤ mostC) × (r .c .half ≡ cHalf (now (s .entry)) size) ⌝ }
-{
-    let usual = entries::usual_step(entries::LONGITUDE);
-    let step = p.longitude.step;
-    if step == usual {
-        return Longitude {
-            c: value_by(s, p.longitude, entries::LONGITUDE, 1, usual, size),
-            b: value_by(s, p.longitude, entries::LONGITUDE, 0, usual, size),
-        };
-    }
-    Longitude {
-        c: value_by(s, p.longitude, entries::LONGITUDE, 1, step, size),
-        b: value_by(s, p.longitude, entries::LONGITUDE, 0, step, size),
-    }
+    value_by(s, p.latitude, entries::LATITUDE, 7, at)
 }
 
 // b at a size of L, in 0.001.
-pub fn b_at(s: &[u8], p: Places, size: u64) -> Rounded
-    requires { ⌜ KnownToPass (now s) p × Within (now s) longitude size ⌝ }
-    ensures { λ r. ⌜ (r .value ≡ bAt (now (s .entry)) size) × (natAbs (r .value) ≤ mostB) × (r .half ≡ bHalf (now (s .entry)) size) ⌝ }
+pub fn b_at(s: &[u8], p: Places, at: At) -> Rounded
+    requires { ⌜ KnownToPass (now s) p × InTable (now s) longitude at ⌝ }
+    ensures { λ r. ⌜ (r .value ≡ bAt (now (s .entry)) (offsetOf at)) × (natAbs (r .value) ≤ mostB) × (r .half ≡ bHalf (now (s .entry)) (offsetOf at)) ⌝ }
 {
-    let usual = entries::usual_step(entries::LONGITUDE);
-    let step = p.longitude.step;
-    if step == usual {
-        return value_by(s, p.longitude, entries::LONGITUDE, 0, usual, size);
-    }
-    value_by(s, p.longitude, entries::LONGITUDE, 0, step, size)
+    value_by(s, p.longitude, entries::LONGITUDE, 0, at)
 }
 
-// P in 0.00001 and d in 0.01 ft: what the reduction of y is worked from.
-pub struct ForReduction {
-    pub p: RoundedSize,
-    pub d: Rounded,
+// c, in 0.001 ft.
+pub fn c_at(s: &[u8], p: Places, at: At) -> Rounded
+    requires { ⌜ KnownToPass (now s) p × InTable (now s) longitude at ⌝ }
+    ensures { λ r. ⌜ (r .value ≡ cAt (now (s .entry)) (offsetOf at)) × (natAbs (r .value) ≤ mostC) × (r .half ≡ cHalf (now (s .entry)) (offsetOf at)) ⌝ }
+{
+    value_by(s, p.longitude, entries::LONGITUDE, 1, at)
 }
 
-// P at y and d at a size of x′. One test for both steps.
-pub fn for_reduction(s: &[u8], p: Places, y: u64, size: u64) -> ForReduction
-    requires { ⌜ KnownToPass (now s) p × Within (now s) northing y × Within (now s) easting size ⌝ }
-    ensures { λ r. ⌜ (r .p .value ≡ pAt (now (s .entry)) y) × (r .p .value ≤ mostP) × (r .p .half ≡ pHalf (now (s .entry)) y) × (r .d .value ≡ dAt (now (s .entry)) size) × (natAbs (r .d .value) ≤ mostD) × (r .d .half ≡ dHalf (now (s .entry)) size) ⌝ }
+// P at y, in 0.00001.
+pub fn p_at(s: &[u8], p: Places, at: At) -> RoundedSize
+    requires { ⌜ KnownToPass (now s) p × InTable (now s) northing at ⌝ }
+    ensures { λ r. ⌜ (r .value ≡ pAt (now (s .entry)) (offsetOf at)) × (r .value ≤ mostP) × (r .half ≡ pHalf (now (s .entry)) (offsetOf at)) ⌝ }
 {
-    let north = entries::usual_step(entries::NORTHING);
-    let east = entries::usual_step(entries::EASTING);
-    if (p.northing.step == north) & (p.easting.step == east) {
-        return ForReduction {
-            p: size_by(s, p.northing, entries::NORTHING, 0, north, y),
-            d: value_by(s, p.easting, entries::EASTING, 0, east, size),
-        };
-    }
-    ForReduction {
-        p: size_by(s, p.northing, entries::NORTHING, 0, p.northing.step, y),
-        d: value_by(s, p.easting, entries::EASTING, 0, p.easting.step, size),
-    }
+    size_by(s, p.northing, entries::NORTHING, 0, at)
 }
 
 // M at y, in 10⁻⁷.
-pub fn m_at(s: &[u8], p: Places, y: u64) -> RoundedSize
-    requires { ⌜ KnownToPass (now s) p × Within (now s) northing y ⌝ }
-    ensures { λ r. ⌜ (r .value ≡ mAt (now (s .entry)) y) × (r .value ≤ mostM) × (r .half ≡ mHalf (now (s .entry)) y) ⌝ }
+pub fn m_at(s: &[u8], p: Places, at: At) -> RoundedSize
+    requires { ⌜ KnownToPass (now s) p × InTable (now s) northing at ⌝ }
+    ensures { λ r. ⌜ (r .value ≡ mAt (now (s .entry)) (offsetOf at)) × (r .value ≤ mostM) × (r .half ≡ mHalf (now (s .entry)) (offsetOf at)) ⌝ }
 {
-    let usual = entries::usual_step(entries::NORTHING);
-    let step = p.northing.step;
-    if step == usual {
-        return size_by(s, p.northing, entries::NORTHING, 1, usual, y);
-    }
-    size_by(s, p.northing, entries::NORTHING, 1, step, y)
+    size_by(s, p.northing, entries::NORTHING, 1, at)
+}
+
+// d at a size of x′, in 0.01 ft.
+pub fn d_at(s: &[u8], p: Places, at: At) -> Rounded
+    requires { ⌜ KnownToPass (now s) p × InTable (now s) easting at ⌝ }
+    ensures { λ r. ⌜ (r .value ≡ dAt (now (s .entry)) (offsetOf at)) × (natAbs (r .value) ≤ mostD) × (r .half ≡ dHalf (now (s .entry)) (offsetOf at)) ⌝ }
+{
+    value_by(s, p.easting, entries::EASTING, 0, at)
 }
 
 // k at a size of x′, in 10⁻⁷.
-pub fn k_at(s: &[u8], p: Places, size: u64) -> Rounded
-    requires { ⌜ KnownToPass (now s) p × Within (now s) scale size ⌝ }
-    ensures { λ r. ⌜ (r .value ≡ kAt (now (s .entry)) size) × (natAbs (r .value) ≤ 10_010_000) × (r .half ≡ kHalf (now (s .entry)) size) ⌝ }
+pub fn k_at(s: &[u8], p: Places, at: At) -> Rounded
+    requires { ⌜ KnownToPass (now s) p × InTable (now s) scale at ⌝ }
+    ensures { λ r. ⌜ (r .value ≡ kAt (now (s .entry)) (offsetOf at)) × (natAbs (r .value) ≤ 10_010_000) × (r .half ≡ kHalf (now (s .entry)) (offsetOf at)) ⌝ }
 {
-    let usual = entries::usual_step(entries::SCALE);
-    let step = p.scale.step;
-    if step == usual {
-        return signed(size_by(s, p.scale, entries::SCALE, 0, usual, size));
-    }
-    signed(size_by(s, p.scale, entries::SCALE, 0, step, size))
+    signed(size_by(s, p.scale, entries::SCALE, 0, at))
 }

@@ -1,108 +1,84 @@
 -- `forward::plane_at` meets its contract. Assumes nothing.
 use mathlib.Core.Path.{_≡_, ap, _∙_}
-use native.Mathlib.Omega.{arith}
+use lib.Dec.{lit≤}
+use lib.IntN.{natAbs}
 use denote.Ref.{now}
 use mir.Syntax.{w32, w64}
 use mir.Val.{toZ, ofZ}
+use Rattle.rounding.proofs.Bits.{bits-is, bits-below}
 use Rattle.entries.specs.Layout.{longitude}
 use Rattle.entries.specs.Entries.{Within}
-use Rattle.tables.specs.Figures.{bAt, bHalf}
-use Rattle.rounding.proofs.Holds.{Holds, cast, cast-fits}
+use Rattle.sheet_check.proofs.Known.{latitude-placed, longitude-placed}
+use Rattle.reading.specs.Tables.{offsetOf}
+use Rattle.tables.specs.Figures.{falseEasting}
 use Rattle.tables.proofs.Answers.{size-is, size-fits}
+use Rattle.tables.proofs.Origins.{easting-held}
 use Rattle.extent.specs.Extent.{fromFirst, lOf}
 use Rattle.extent.proofs.Reach.{latitude-reach, latitude-small, latitude-within, longitude-within}
-use Rattle.forward.proofs.Eastings.{plane-worked}
-use Rattle.rounding.proofs.Bits.{bits-is, bits-below}
+use Rattle.forward.specs.Forward.{Workable}
+use Rattle.forward.proofs.Eastings.{plane-worked, taken-workable}
 use borrow.Author.Needs.{needs}
 use Rattle.forward.proofs.plane_at.Statement.{statement}
 use Rattle.forward.proofs.plane_at.Tie as tie
 
 -- the latitude's distance from row 0, and L, as they were worked
-distance-is : (c : tie.After-from-first) → c .from-first .result ≡ fromFirst (now (c .before .before .args .s)) (c .before .before .args .latitude)
-distance-is c =
-    let north : toZ w32 (ofZ w32 (c .before .before .args .latitude)) ≡ c .before .before .args .latitude = search needs in
-    c .from-first .ensures ∙ ap (fromFirst _) north
+module _ (c : tie.After-from-first) where
+  distance-is : c .from-first .result ≡ fromFirst (now (c .before .before .args .s)) (c .before .before .args .latitude)
+  distance-is =
+      let north : toZ w32 (ofZ w32 (c .before .before .args .latitude)) ≡ c .before .before .args .latitude = search needs in
+      c .from-first .ensures ∙ ap (fromFirst _) north
+
+  t-is : natAbs (toZ w64 (ofZ w64 (c .from-first .result))) ≡ natAbs (fromFirst (now (c .before .before .args .s)) (c .before .before .args .latitude))
+  t-is = size-is (c .from-first .ok) distance-is (latitude-reach _ _ (c .before .before .pre .2))
 
 l-is : (c : tie.After-l-of) → toZ w64 (ofZ w64 (c .l-of .result)) ≡ lOf (now (c .before .before .before .args .s)) (c .before .before .before .args .longitude)
 l-is c =
     let west : toZ w32 (ofZ w32 (c .before .before .before .args .longitude)) ≡ c .before .before .before .args .longitude = search needs in
     bits-is (c .l-of .ok) ∙ c .l-of .ensures .0 ∙ ap (lOf _) west
 
--- x and y, as they were worked
-x-held : (c : tie.After-y-of) → Holds w64 (ofZ w64 (c .before .x-of .result .value)) (c .before .x-of .result .value) 161_204_000
-x-held c = record { is = search needs; size = c .before .x-of .ensures .1 }
+-- the size of L is within its table
+size-within : (c : tie.After-size) → Within (now (c .before .before .before .before .before .args .s)) longitude (c .size .result)
+size-within c = rw (c .size .ensures, l-is (c .before .before)) (longitude-within _ _ (c .before .before .before .before .before .pre .3))
 
-y-held : (c : tie.After-y-of) → Holds w64 (ofZ w64 (c .y-of .result .value)) (c .y-of .result .value) 1_000_504_199
-y-held c = record { is = search needs; size = c .y-of .ensures .1 }
+-- the places, where the figures were taken, and the false easting
+module _ (c : tie.After-taken-at) where
+  abbrev ls : tie.After-l-of
+  ls = c .before .before .before .before
+
+  abbrev start : tie.Start
+  start = ls .before .before .before
+
+  north-is : offsetOf (c .before .before .before .position .result) ≡ natAbs (fromFirst (now (start .args .s)) (start .args .latitude))
+  north-is = c .before .before .before .position .ensures .1 ∙ t-is (ls .before)
+
+  west-is : offsetOf (c .before .position2 .result) ≡ natAbs (toZ w64 (ofZ w64 (ls .l-of .result)))
+  west-is = c .before .position2 .ensures .1 ∙ c .before .before .size .ensures
+
+  easting-is : toZ w64 (ofZ w64 (start .args .o .«false_easting»)) ≡ falseEasting (now (start .args .s))
+  easting-is = easting-held _ (start .pre .0 .passes) _ (start .pre .1) .is
+
+worked-requires : tie.Need-worked-requires
+worked-requires c κs =
+    let taken = c .before in
+    let p = start taken .pre in
+    rw (taken .taken-at .ensures, north-is taken, west-is taken, easting-is taken, l-is (ls taken))
+    (taken-workable _ (p .0 .passes) _ (latitude-within _ (p .0 .passes) _ (p .2)) _ (longitude-within _ _ (p .3)))
 
 returns : tie.Need-returns
 returns c =
-    let worked = c .before .before .before .before .before .before in
-    let start = worked .before .before .before .before .before .before .before in
-    let distance = worked .before .before .before .before .before in
-    let t = size-is (distance .from-first .ok) (distance-is distance) (latitude-reach _ _ (start .pre .2)) in
-    let x = worked .before .x-of .ensures in
-    let y = worked .y-of .ensures in
-    plane-worked _ _ _ t (l-is (worked .before .before .before .before)) (worked .before .before .before .size .ensures)
-    (cast (x-held worked) tt .is) (x .0) (cast (y-held worked) tt .is) (y .0) (x .2) (y .2)
-
-cast-t13 : tie.Need-cast-t13
-cast-t13 c = cast-fits (x-held (c .before .before)) tt
-
-cast-t14 : tie.Need-cast-t14
-cast-t14 c = cast-fits (y-held (c .before .before .before .before)) tt
-
-from-first-requires : tie.Need-from-first-requires
-from-first-requires c κs = (c .before .pre .0 .passes, c .before .pre .1)
-
-cast-t : tie.Need-cast-t
-cast-t c =
-    let p = c .before .before .pre in
-    size-fits (c .from-first .ok) (distance-is c) (latitude-small _ (p .0 .passes) _ (p .2)) tt
-
-l-of-requires : tie.Need-l-of-requires
-l-of-requires c κs = let p = c .before .before .pre in (p .0 .passes, p .1)
-
-size-requires : tie.Need-size-requires
-size-requires c κs = bits-below (c .l-of .result) (c .l-of .ok) (c .l-of .ensures .1) tt
-
--- the size of L is within its table
-size-reach : (c : tie.After-size) → Within (now (c .before .before .before .before .args .s)) longitude (c .size .result)
-size-reach c = rw (c .size .ensures, l-is (c .before)) (longitude-within _ _ (c .before .before .before .before .pre .3))
-
-longitude-at-requires : tie.Need-longitude-at-requires
-longitude-at-requires c κs =
-    let p = c .before .before .before .before .pre in
-    (p .0, size-reach c)
-
-x-of-requires : tie.Need-x-of-requires
-x-of-requires c κs =
-    let p = c .before .before .before .before .before .pre in
-    let distance = c .before .before .before in
-    let t = size-is (distance .from-first .ok) (distance-is distance) (latitude-reach _ _ (p .2)) in
-    let size = c .before .size .ensures in
-    let b = c .longitude-at .ensures in
-    (p .0, p .1, rw t (latitude-within _ (p .0 .passes) _ (p .2)), rw (← size) (size-reach (c .before)), b .0 ∙ ap (bAt _) (omega (arith, size)), b .2 ∙ ap (bHalf _) (omega (arith, size)))
-
-y-of-requires : tie.Need-y-of-requires
-y-of-requires c κs =
-    let p = c .before .before .before .before .before .before .pre in
-    let distance = c .before .before .before .before in
-    let t = size-is (distance .from-first .ok) (distance-is distance) (latitude-reach _ _ (p .2)) in
-    let read = c .before .longitude-at .ensures in
-    (p .0, rw t (latitude-within _ (p .0 .passes) _ (p .2)), size-reach (c .before .before), read .3, read .5)
+    let taken = c .before .before in
+    c .worked .ensures ∙ plane-worked _ _ _ (taken .taken-at .ensures) (north-is taken) (west-is taken) (easting-is taken) (l-is (ls taken))
 
 pub plane-at-spec : {M : Type 1} → statement M
 plane-at-spec =
     tie.close
     (tie.spec
-    from-first-requires
-    cast-t
-    l-of-requires
-    size-requires
-    longitude-at-requires
-    x-of-requires
-    y-of-requires
-    cast-t13
-    cast-t14
+    (λ c κs. (c .before .pre .0 .passes, c .before .pre .1))
+    (λ c. size-fits (c .from-first .ok) (distance-is c) (latitude-small _ (c .before .before .pre .0 .passes) _ (c .before .before .pre .2)) tt)
+    (λ c κs. (c .before .before .pre .0 .passes, c .before .before .pre .1))
+    (λ c κs. let p = c .before .before .before .pre in (latitude-placed _ _ (p .0), lit≤ tt, rw (t-is (c .before)) (latitude-within _ (p .0 .passes) _ (p .2))))
+    (λ c κs. bits-below (c .before .l-of .result) (c .before .l-of .ok) (c .before .l-of .ensures .1) tt)
+    (λ c κs. (longitude-placed _ _ (c .before .before .before .before .before .pre .0), lit≤ tt, size-within c))
+    (λ c κs. search needs)
+    worked-requires
     returns)

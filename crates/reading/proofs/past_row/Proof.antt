@@ -9,8 +9,8 @@ use Rattle.reading.proofs.past_row.Tie as tie
 returns : tie.Need-returns
 unfolding pastRow pastRowHalf
 returns c =
-    let a = c .before .before .before .before .args in
-    let next = c .before .raised-word2 .ensures .0 ∙ next-word (a .b .now) (a .w) (a .c) (a .i) in
+    let a = c .before .before .before .before .before .args in
+    let next = c .before .raised-word2 .ensures .0 ∙ next-word (a .b .now) (a .w) (a .c) (a .at .row) in
     let this = c .before .before .raised-word .ensures .0 in
     (c .between .ensures .0 ∙ rw (this, next), c .between .ensures .1 ∙ rw (this, next))
 

@@ -33,8 +33,10 @@ size-past-row-spec =
     (λ c. search needs)
     (λ c. search needs)
     (λ c. search needs)
+    (λ c. search needs)
     mul-nearest-size
     mul-nearest-size-2
     add-nearest-size
+    (λ c. search needs)
     nearest-size-requires
     returns)

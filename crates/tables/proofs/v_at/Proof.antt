@@ -1,9 +1,10 @@
 -- `tables::v_at` meets its contract. Assumes nothing.
 use mathlib.Core.Path.{_∙_}
 use Rattle.tables.specs.Figures.{vAt, vHalf}
-use Rattle.tables.proofs.Ranges.{minute-step, latitude-is, latitude-half-is, v-between, v-rows}
-use Rattle.sheet_check.proofs.Known.{latitude-placed}
+use Rattle.tables.proofs.Parts.{table-within}
+use Rattle.tables.proofs.Ranges.{latitude-is, latitude-half-is, v-between, v-rows}
 use Rattle.tables.proofs.Answers.{read-is, read-high}
+use Rattle.sheet_check.proofs.Known.{latitude-placed}
 use borrow.Author.Needs.{needs}
 use Rattle.tables.proofs.v_at.Statement.{statement}
 use Rattle.tables.proofs.v_at.Tie as tie
@@ -12,12 +13,9 @@ returns : tie.Need-returns
 unfolding vAt vHalf
 returns c =
     let p = c .before .before .pre in
-    let h = v-between _ (p .0 .passes) _ (p .1) in
+    let h = v-between _ (p .0 .passes) _ (table-within _ _ _ (p .1)) in
     let e = c .size-by .ensures .0 ∙ latitude-is _ (p .0 .passes) 5 _ in
     (read-is e h, read-high e h, c .size-by .ensures .1 ∙ latitude-half-is _ (p .0 .passes) 5 _)
 
-size-by-requires : tie.Need-size-by-requires
-size-by-requires c κs = search (latitude-placed, minute-step, v-rows, needs)
-
 pub v-at-spec : {M : Type 1} → statement M
-v-at-spec = tie.close (tie.spec size-by-requires returns)
+v-at-spec = tie.close (tie.spec (λ c κs. search (latitude-placed, v-rows, needs)) returns)
