@@ -8,6 +8,7 @@ use Rattle.refusals.specs.Ladder.{need}
 use Rattle.tables.specs.Figures.{mAt, mHalf, kAt, kHalf}
 use Rattle.extent.specs.Extent.{xPrime, scaleKnown, northingKnown}
 use Rattle.convergence.specs.declared.Grid.{Grid}
+use Rattle.convergence.specs.declared.Taken.{Taken}
 
 -- The answer: Δα in 0.1″, k in 10⁻⁷, and whether "some rounding in it met a half (no in a refusal)". "A refused conversion carries zeros."
 abbrev pub grid : ℕ → ℤ → ℤ → Bool → Grid
@@ -34,3 +35,11 @@ gridOf s x y =
     need (scaleKnown s (xPrime s x)) (noGrid 12)
     (need (northingKnown s y) (noGrid 13)
     (gridAt s (xPrime s x) y))
+
+-- ---- the same in two halves: the figures as they are read, and the work on figures alone
+unfoldable pub takenAt : List ℕ → ℤ → ℤ → Taken
+takenAt s xp y = record { m = record { value = mAt s (natAbs y); half = mHalf s (natAbs y) }; k = record { value = kAt s (natAbs xp); half = kHalf s (natAbs xp) } }
+
+-- That it is `gridAt` of a sheet's figures, `Convergences.taken-worked` proves.
+unfoldable pub workedOf : Taken → ℤ → Grid
+workedOf f xp = grid 0 (convergence (f .m .value) xp) (f .k .value) (f .m .half || f .k .half || convergenceHalf (f .m .value) xp)

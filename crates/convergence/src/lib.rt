@@ -1,10 +1,15 @@
 // Convergence and scale at a plane point, on a sheet known to pass, with its places in hand: 12, 13, or Δα and k.
 use entries::Places;
+use rounding::Rounded;
+use rounding::RoundedSize;
 ghost use mathlib.Core.Path.{_≡_};
 ghost use mathlib.Core.Bool.{true};
+ghost use Prim.Native.Nat.{_≤_};
+ghost use lib.IntN.{natAbs};
+ghost use Rattle.rounding.specs.Ranges.{mostM, mostWord};
 ghost use Rattle.sheet_check.specs.Check.{KnownToPass};
 ghost use Rattle.extent.specs.Extent.{scaleKnown, northingKnown};
-ghost use Rattle.convergence.specs.Grid.{gridAt, gridOf};
+ghost use Rattle.convergence.specs.Grid.{gridOf, takenAt, workedOf};
 
 // The grid at a point: the convergence Δα in 0.1″, the scale k in 10⁻⁷, and whether some rounding on the way to them met a half. A refusal has its number, zeros and no half.
 pub struct Grid {
@@ -14,19 +19,37 @@ pub struct Grid {
     pub half: bool,
 }
 
-// The grid at a point within the tables.
-fn grid_at(s: &[u8], p: Places, xp: i64, y: i32) -> Grid
+// The figures that the grid at a point is worked from, as they were read: M at y, k at the size of x′.
+pub struct Taken {
+    pub m: RoundedSize,
+    pub k: Rounded,
+}
+
+// Reading: the figures of a point within the tables.
+fn taken_at(s: &[u8], p: Places, xp: i64, y: i32) -> Taken
     requires { ⌜ KnownToPass (now s) p × (scaleKnown (now s) xp ≡ true) × (northingKnown (now s) y ≡ true) ⌝ }
-    ensures { λ r. ⌜ r ≡ gridAt (now (s .entry)) xp y ⌝ }
+    ensures { λ r. ⌜ (r ≡ takenAt (now (s .entry)) xp y) × (r .m .value ≤ mostM) × (natAbs (r .k .value) ≤ 10_010_000) ⌝ }
 {
-    let m = tables::m_at(s, p, (y as i64) as u64);
-    let k = tables::k_at(s, p, rounding::size(xp));
-    let convergence = steps::convergence(m.value, xp);
+    let north = extent::position(s, p.northing, entries::NORTHING, (y as i64) as u64);
+    let m = tables::m_at(s, p, north);
+    let east = extent::position(s, p.scale, entries::SCALE, rounding::size(xp));
+    Taken {
+        m,
+        k: tables::k_at(s, p, east),
+    }
+}
+
+// Working: the grid at a point, from its figures and x′.
+pub fn worked(f: Taken, xp: i64) -> Grid
+    requires { ⌜ (f .m .value ≤ mostM) × (natAbs (f .k .value) ≤ 10_010_000) × (natAbs xp ≤ mostWord) ⌝ }
+    ensures { λ r. ⌜ r ≡ workedOf f xp ⌝ }
+{
+    let convergence = steps::convergence(f.m.value, xp);
     Grid {
         number: 0,
         convergence: convergence.value as i32,
-        scale: k.value as i32,
-        half: m.half | k.half | convergence.half,
+        scale: f.k.value as i32,
+        half: f.m.half | f.k.half | convergence.half,
     }
 }
 
@@ -53,5 +76,5 @@ pub fn convergence(s: &[u8], p: Places, x: i32, y: i32) -> Grid
             half: false,
         };
     }
-    grid_at(s, p, xp, y)
+    worked(taken_at(s, p, xp, y), xp)
 }

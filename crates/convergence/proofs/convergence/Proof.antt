@@ -1,12 +1,16 @@
 -- `convergence::convergence` meets its contract. Assumes nothing.
 use mathlib.Core.Path.{_≡_, ap, _∙_}
+use native.Mathlib.Nat.{le-trans}
+use lib.Dec.{lit≤}
+use mathlib.Core.Bool.{true}
 use denote.Ref.{now}
 use mir.Syntax.{w32, w64}
 use mir.Val.{toZ, ofZ}
 use Rattle.refusals.proofs.Ladders.{stop, go, kept}
 use Rattle.extent.specs.Extent.{xPrime, scaleKnown, northingKnown}
-use Rattle.convergence.specs.Grid.{gridAt, gridOf}
-use Rattle.rounding.proofs.Bits.{bits-is, both-same}
+use Rattle.convergence.specs.Grid.{gridOf}
+use Rattle.convergence.proofs.Convergences.{taken-worked, xp-most}
+use Rattle.rounding.proofs.Bits.{bits-is}
 use borrow.Author.Needs.{needs}
 use Rattle.convergence.proofs.convergence.Statement.{statement}
 use Rattle.convergence.proofs.convergence.Tie as tie
@@ -35,18 +39,34 @@ returns-2 : tie.Need-returns-2
 unfolding gridOf
 returns-2 c = go _ _ _ _ _ (scale-known-is (c .before .before .before)) (c .before .before .if1 .left) (stop _ _ _ _ (northing-is (c .before)) (c .if2 .taken))
 
+-- past both tests
+module _ (c : tie.Else2) where
+  abbrev start : tie.Start
+  start = c .before .before .before .before .before .before .before
+
+  scale-there : scaleKnown (now (start .args .s)) (xPrime (now (start .args .s)) (start .args .x)) ≡ true
+  scale-there = kept _ _ (scale-known-is (c .before .before .before)) (c .before .before .if1 .left)
+
+  northing-there : northingKnown (now (start .args .s)) (start .args .y) ≡ true
+  northing-there = kept _ _ (northing-is (c .before)) (c .if2 .left)
+
 returns-3 : tie.Need-returns-3
 unfolding gridOf
 returns-3 c =
-    let start = c .before .before .before .before .before .before .before .before in
-    go _ _ _ _ _ (scale-known-is (c .before .before .before .before)) (c .before .before .before .if1 .left)
-    (go _ _ _ _ _ (northing-is (c .before .before)) (c .before .if2 .left)
-    (c .grid-at .ensures ∙ both-same (gridAt _) (xp-is (c .before .before .before .before .before)) (y-is start)))
+    let passed = c .before .before in
+    let xp = xp-is (passed .before .before .before .before) in
+    go _ _ _ _ _ (scale-known-is (passed .before .before .before)) (passed .before .before .if1 .left)
+    (go _ _ _ _ _ (northing-is (passed .before)) (passed .if2 .left)
+    (c .worked .ensures ∙ rw (c .before .taken-at .ensures .0, xp, y-is (start passed)) (taken-worked _ _ _)))
 
-grid-at-requires : tie.Need-grid-at-requires
-grid-at-requires c κs =
-    let p = c .before .before .before .before .before .before .before .pre in
-    (p, kept _ _ (c .before .before .before .scale-known .ensures) (c .before .before .if1 .left), kept _ _ (c .before .northing-known .ensures) (c .if2 .left))
+taken-at-requires : tie.Need-taken-at-requires
+taken-at-requires c κs = (start c .pre, rw (xp-is (c .before .before .before .before)) (scale-there c), rw (y-is (start c)) (northing-there c))
+
+worked-requires : tie.Need-worked-requires
+worked-requires c κs =
+    let passed = c .before in
+    let z = start passed .pre .passes in
+    (c .taken-at .ensures .1, c .taken-at .ensures .2, rw (xp-is (passed .before .before .before .before)) (le-trans (xp-most _ _ (start passed .args .y) z (scale-there passed)) (lit≤ tt)))
 
 pub convergence-spec : {M : Type 1} → statement M
 convergence-spec =
@@ -58,5 +78,6 @@ convergence-spec =
     returns
     (λ c κs. search needs)
     returns-2
-    grid-at-requires
+    taken-at-requires
+    worked-requires
     returns-3)
