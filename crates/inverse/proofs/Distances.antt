@@ -7,7 +7,7 @@ use native.Mathlib.Nat.{le-trans, le-of-lt}
 use native.Mathlib.Decide.{decLt}
 use native.Mathlib.Omega.{arith}
 use borrow.Author.Tests.{leb-true, ltb-true, le-leb}
-use lib.Dec.{T}
+use lib.Dec.{T, lit≤}
 use lib.IntN.{ℤ, pos, negsuc, natAbs, _-ℤ_}
 use lib.Signed.{leZ, ltZ, nonNeg}
 use mir.Syntax.{w64}
@@ -26,11 +26,10 @@ use Rattle.sheet_check.specs.Check.{checkOf}
 use Rattle.row_search.specs.Rows.{RisesBy}
 use Rattle.row_search.proofs.LastRow.{last-below, last-not-above, later-above}
 use Rattle.tables.specs.Figures.{y0Of}
-use Rattle.tables.proofs.Past.{past-within}
-use Rattle.tables.proofs.Ranges.{latitude-some, latitude-two, y0-size, y0-rises}
+use Rattle.tables.proofs.Ranges.{latitude-some, latitude-two, within-minutes, y0-size, y0-rises}
 use Rattle.extent.specs.Extent.{reducedKnown}
 use Rattle.extent.proofs.Reach.{latitude-count, reduced-reach}
-use Rattle.inverse.specs.Inverse.{rowOf, secondsPast, secondsPastHalf, distanceOf, distanceHalf}
+use Rattle.inverse.specs.Inverse.{rowOf, secondsPast, secondsPastHalf, distanceOf, distanceHalf, secondsBy, secondsByHalf}
 
 -- ---- the order of sizes, and their difference
 above-size : (a b : ℤ) → a ≡ pos (natAbs a) → leZ a b ≡ true → (b ≡ pos (natAbs b)) × (natAbs a ≤ natAbs b)
@@ -195,29 +194,27 @@ module _ (s : List ℕ) (ok : checkOf s .number ≡ 0) (z : ℤ) (known : reduce
     pub next-fits : Fits w64 (row + 1)
     next-fits = record { fits = omega (arith, next-there, latitude-count s ok) }
 
-    module _ (y y′ z′ : ℤ) (g : y′ ≡ y) (k : y ≡ y0Of s row) (same : z′ ≡ z) where
-      pub above-row : leZ y′ z′ ≡ true
-      above-row = rw (g ∙ k, same, this-y0 .is, z-size .0) (le-leb (natAbs (y0Of s row)) (natAbs z) not-above)
+    -- u, w and z′ have the bits of the row's y0, of the next row's and of z
+    module _ (u w z′ : ℤ) (k : u ≡ y0Of s row) (m : w ≡ y0Of s (row + 1)) (same : z′ ≡ z) where
+      pub seconds-ask : (natAbs u ≤ mostGap) × (natAbs w ≤ mostGap) × (natAbs z′ ≤ mostGap) × (leZ u z′ ≡ true) × (leZ u w ≡ true) × (0 < natAbs (w -ℤ u)) × (natAbs (z′ -ℤ u) ≤ natAbs (w -ℤ u)) × (natAbs (w -ℤ u) ≤ mostGap)
+      seconds-ask =
+          rw (k, m, same) (
+            le-trans (this-y0 .high) (lit≤ tt),
+            le-trans (after-y0 .high) (lit≤ tt),
+            z-most,
+            rw (this-y0 .is, z-size .0) (le-leb (natAbs (y0Of s row)) (natAbs z) not-above),
+            rw (this-y0 .is, after-y0 .is) (le-leb (natAbs (y0Of s row)) (natAbs (y0Of s (row + 1))) (omega (arith, rises))),
+            gap-some,
+            past-most,
+            gap-most,
+          )
 
-      module _ (w w′ : ℤ) (l : w′ ≡ w) (m : w ≡ y0Of s (row + 1)) where
-        pub above-next : leZ y′ w′ ≡ true
-        above-next = rw (g ∙ k, l ∙ m, this-y0 .is, after-y0 .is) (le-leb (natAbs (y0Of s row)) (natAbs (y0Of s (row + 1))) (omega (arith, rises)))
-
-        module _ (past′ gap′ : ℕ) (p : past′ ≡ natAbs (z′ -ℤ y′)) (q : gap′ ≡ natAbs (w′ -ℤ y′)) where
-          past-same : past′ ≡ past row
-          past-same = p ∙ rw (g ∙ k, same)
-
-          gap-same : gap′ ≡ gap row
-          gap-same = q ∙ rw (g ∙ k, l ∙ m)
-
-          pub seconds-ask : (past′ ≤ mostGap) × (0 < gap′) × (gap′ ≤ mostGap)
-          seconds-ask = rw (past-same, gap-same) (le-trans past-most gap-most, gap-some, gap-most)
-
-          pub seconds-are : (r : ℕ) (half : Bool) → r ≡ seconds oneMinute past′ gap′ → half ≡ secondsHalf oneMinute past′ gap′
-              → (row * oneMinute + r ≡ distanceOf s z) × (r ≤ oneMinute) × (half ≡ distanceHalf s z)
-          seconds-are r half a b =
-              let its : r ≡ secondsAt row = a ∙ rw (past-same, gap-same) in
-              (rw its distance-is, rw its seconds-most, b ∙ rw (past-same, gap-same) half-is)
+      pub seconds-are : (r : ℕ) (half : Bool) → r ≡ secondsBy u w z′ → half ≡ secondsByHalf u w z′
+          → (row * oneMinute + r ≡ distanceOf s z) × (r ≤ oneMinute) × (half ≡ distanceHalf s z)
+      unfolding secondsBy secondsByHalf
+      seconds-are r half a b =
+          let its : r ≡ secondsAt row = a ∙ rw (k, m, same) in
+          (rw its distance-is, rw its seconds-most, b ∙ rw (k, m, same) half-is)
 
   -- where it has a next row, what lies past it is less than the gap
   pub past-gap : rowOf s z + 1 < n → natAbs (z -ℤ y0Of s (rowOf s z)) < natAbs (y0Of s (rowOf s z + 1) -ℤ y0Of s (rowOf s z))
@@ -229,4 +226,5 @@ module _ (s : List ℕ) (ok : checkOf s .number ≡ 0) (z : ℤ) (known : reduce
   pub distance-within : Within s latitude (distanceOf s z)
   distance-within =
       let row = min (rowOf s z) (n - 2) in
-      rw (← distance-is row refl) (past-within s ok row (secondsAt row) (next-there row refl) (seconds-most row refl))
+      let most : row + 1 ≤ n - 1 = omega (arith, next-there row refl) in
+      rw (← distance-is row refl) (within-minutes s ok (row * oneMinute + secondsAt row) (omega (arith, most, seconds-most row refl)))

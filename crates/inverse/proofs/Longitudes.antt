@@ -1,5 +1,5 @@
 -- Plane to geographic on a sheet that passes: approximate L, the size of L, which is not negative, and the point, which fits 32 bits. Assumes nothing.
-use mathlib.Core.Path.{_≡_, _∙_}
+use mathlib.Core.Path.{_≡_, refl, _∙_}
 use mathlib.Core.Bool.{Bool, true, _||_}
 use mathlib.Core.List.{List}
 use Prim.Native.Nat.{ℕ, zero, suc, _*_, _≤_}
@@ -9,7 +9,8 @@ use lib.Dec.{T, lit≤}
 use lib.IntN.{ℤ, pos, negℤ, natAbs, _+ℤ_, _-ℤ_, _*ℤ_}
 use lib.Signed.{nonNeg}
 use Rattle.rounding.specs.Ranges.{mostA, mostX}
-use Rattle.steps.specs.Steps.{approximateL, approximateLHalf, sizeOfL, sizeOfLHalf, reduction, reductionHalf}
+use Rattle.rounding.specs.declared.Rounded.{Rounded}
+use Rattle.steps.specs.Steps.{approximateL, approximateLHalf, reduction}
 use Rattle.rounding.proofs.Sizes.{Size, size-from, sum-nonNeg, size-minus, size-product, product-most}
 use Rattle.rounding.proofs.Rounding.{IsNearest, is-nearest}
 use Rattle.steps.proofs.StepBounds.{reduction-most, approximate-most, l-size-most}
@@ -20,31 +21,48 @@ use Rattle.tables.specs.Figures.{firstLatitude, hAt, hHalf, aAt, aHalf, bAt, bH
 use Rattle.tables.proofs.Ranges.{h-least, a-most, b-between, b-slope, p-between, d-between}
 use Rattle.extent.specs.Extent.{sizeKnown}
 use Rattle.extent.proofs.Reach.{easting-span, size-within}
-use Rattle.inverse.specs.Inverse.{geographic, reducedHalf, approximateOf, sizeOf, sizeHalf, longitudeOf, geographicAt}
+use Rattle.inverse.specs.declared.ForReduction.{ForReduction}
+use Rattle.inverse.specs.declared.Taken.{Taken}
+use Rattle.inverse.specs.Inverse.{geographic, reducedNorthing, reducedHalf, approximateOf, sizeOf, sizeHalf, longitudeOf, geographicAt, forReduction, reducedBy, reducedByHalf, takenAt, approximateBy, sizeBy, sizeByHalf}
 
--- ---- the steps, from the figures as they were read: a number with ′ has the bits of the one without
-pub reduction-worked : (s : List ℕ) (x : ℕ) (y : ℤ) {p : ℕ} {y′ d d′ : ℤ} → y′ ≡ y → p ≡ pAt s (natAbs y′) → d′ ≡ d → d ≡ dAt s x
-    → reduction p x d′ ≡ reduction (pAt s (natAbs y)) x (dAt s x)
-reduction-worked s x y e f g k = rw (g ∙ k, f, e)
+-- ---- reading and working are the whole
+pub reduced-halves : (s : List ℕ) (x : ℕ) (y : ℤ) → reducedBy (forReduction s x y) x y ≡ reducedNorthing s x y
+unfolding reducedBy forReduction reducedNorthing
+reduced-halves s x y = refl
 
-pub reduced-marked : (s : List ℕ) (x : ℕ) (y : ℤ) {p : ℕ} {y′ d d′ : ℤ} {fp fd fr : Bool} → y′ ≡ y → p ≡ pAt s (natAbs y′) → d′ ≡ d → d ≡ dAt s x
-    → fp ≡ pHalf s (natAbs y′) → fd ≡ dHalf s x → fr ≡ reductionHalf p x d′ → (fp || fd || fr) ≡ reducedHalf s x y
-unfolding reducedHalf
-reduced-marked s x y e f g k mp md mr = rw (mr, mp, md, g ∙ k, f, e)
+pub reduced-half-halves : (s : List ℕ) (x : ℕ) (y : ℤ) → reducedByHalf (forReduction s x y) x ≡ reducedHalf s x y
+unfolding reducedByHalf forReduction reducedHalf
+reduced-half-halves s x y = refl
 
-module _ (s : List ℕ) (x t : ℕ) where
-  pub approximate-worked : {h : ℕ} → h ≡ hAt s t → approximateL x h * 1_000 ≡ approximateOf s x t
-  unfolding approximateOf
-  approximate-worked e = rw e
+-- f are the figures at t from row 0, and m is the size of x′
+module _ (s : List ℕ) (x t : ℕ) (f : Taken) {m : ℕ} (r : f ≡ takenAt s t) (g : m ≡ x) where
+  pub approximate-halves : approximateBy (f .h .value) m ≡ approximateOf s x t
+  unfolding approximateBy takenAt approximateOf
+  approximate-halves = rw (r, g)
 
-  pub size-worked : {n h : ℕ} {a a′ b b′ : ℤ} → n ≡ approximateOf s x t → h ≡ hAt s t → a′ ≡ a → a ≡ aAt s t → b′ ≡ b → b ≡ bAt s n → sizeOfL x a′ b′ h ≡ sizeOf s x t
-  unfolding sizeOf
-  size-worked n h e f g k = rw (e ∙ f, g ∙ k, n, h)
+  pub approximate-half-halves : approximateLHalf m (f .h .value) ≡ approximateLHalf x (hAt s t)
+  unfolding takenAt
+  approximate-half-halves = rw (r, g)
 
-  pub size-marked : {n h : ℕ} {a a′ b b′ : ℤ} {fh fa fn fb fl : Bool} → n ≡ approximateOf s x t → h ≡ hAt s t → a′ ≡ a → a ≡ aAt s t → b′ ≡ b → b ≡ bAt s n
-      → fh ≡ hHalf s t → fa ≡ aHalf s t → fn ≡ approximateLHalf x (hAt s t) → fb ≡ bHalf s n → fl ≡ sizeOfLHalf x a′ b′ h → (fh || fa || fn || fb || fl) ≡ sizeHalf s x t
-  unfolding sizeHalf
-  size-marked n h e f g k mh ma mn mb ml = rw (ml, mh, ma, mn, mb, e ∙ f, g ∙ k, n, h)
+  -- b is read at approximate L, n
+  module _ {n : ℕ} (e : n ≡ approximateOf s x t) (b : Rounded) (k : b .value ≡ bAt s n) where
+    pub size-halves : sizeBy f (b .value) m ≡ sizeOf s x t
+    unfolding sizeBy takenAt sizeOf
+    size-halves = rw (r, g, k, e)
+
+    pub size-half-halves : {met : Bool} → met ≡ approximateLHalf x (hAt s t) → b .half ≡ bHalf s n → sizeByHalf f b m met ≡ sizeHalf s x t
+    unfolding sizeByHalf takenAt sizeHalf
+    size-half-halves h l = rw (r, g, h, l, k, e)
+
+-- ---- the figures, as they were read
+pub reduction-taken : (s : List ℕ) (x : ℕ) (y : ℤ) (f : ForReduction) {n m : ℕ} → n ≡ natAbs y → m ≡ x → f .p .value ≡ pAt s n → f .p .half ≡ pHalf s n → f .d .value ≡ dAt s m → f .d .half ≡ dHalf s m
+    → f ≡ forReduction s x y
+unfolding forReduction
+reduction-taken s x y f e g p p′ d d′ = rw (← e, ← g, ← p, ← p′, ← d, ← d′)
+
+pub taken-is : (s : List ℕ) (t : ℕ) (f : Taken) → f .h .value ≡ hAt s t → f .h .half ≡ hHalf s t → f .a .value ≡ aAt s t → f .a .half ≡ aHalf s t → f ≡ takenAt s t
+unfolding takenAt
+taken-is s t f h h′ a a′ = rw (← h, ← h′, ← a, ← a′)
 
 pub geographic-worked : (s : List ℕ) (xp : ℤ) (t : ℕ) (met : Bool) {north north′ west west′ : ℤ} {half : Bool}
     → north′ ≡ north → north ≡ firstLatitude s +ℤ pos t → west′ ≡ west → west ≡ longitudeOf s xp t → half ≡ sizeHalf s (natAbs xp) t
@@ -85,8 +103,9 @@ module _ (s : List ℕ) (z : checkOf s .number ≡ 0) (x t : ℕ) (hx : Within s
 
   module _ (known : sizeKnown s (pos (approximateOf s x t)) ≡ true) where
     -- the same of the figures as they were read, at n
-    pub l-asked : {n : ℕ} {a a′ b b′ : ℤ} → n ≡ approximateOf s x t → a′ ≡ a → a ≡ aAt s t → b′ ≡ b → b ≡ bAt s n → T (nonNeg (pos (x * 10_000) -ℤ a′ *ℤ b′))
-    l-asked n e f g k = rw (e ∙ f, g ∙ k, n) (l-not-negative known)
+    pub l-asked : (f : Taken) {n m : ℕ} {b : ℤ} → f ≡ takenAt s t → m ≡ x → n ≡ approximateOf s x t → b ≡ bAt s n → T (nonNeg (pos (m * 10_000) -ℤ f .a .value *ℤ b))
+    unfolding takenAt
+    l-asked f r g e k = rw (r, g, k, e) (l-not-negative known)
 
     -- r is the size of L as a size
     pub l-between : {r : ℕ} → pos r ≡ sizeOf s x t → Size 0 (sizeOf s x t) 900_040_000_000_000

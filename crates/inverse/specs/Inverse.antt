@@ -11,7 +11,10 @@ use Rattle.entries.specs.Entries.{rowsOf}
 use Rattle.row_search.specs.Rows.{lastNotAbove}
 use Rattle.tables.specs.Figures.{centralMeridian, firstLatitude, y0Of, hAt, hHalf, aAt, aHalf, bAt, bHalf, pAt, pHalf, dAt, dHalf}
 use Rattle.extent.specs.Extent.{sizeKnown, xPrime, eastingKnown, northingKnown, reducedKnown}
+use Rattle.rounding.specs.declared.Rounded.{Rounded}
 use Rattle.inverse.specs.declared.Geographic.{Geographic}
+use Rattle.inverse.specs.declared.ForReduction.{ForReduction}
+use Rattle.inverse.specs.declared.Taken.{Taken}
 
 -- The answer: latitude and west longitude, in 0.001″, and whether "some rounding in it met a half (no in a refusal)". "A refused conversion carries zeros."
 abbrev pub geographic : ℕ → ℤ → ℤ → Bool → Geographic
@@ -94,3 +97,36 @@ inverseOf s x y =
     need (eastingKnown s (xPrime s x)) (noGeographic 12)
     (need (northingKnown s y) (noGeographic 13)
     (fromReduced s (xPrime s x) (reducedNorthing s (natAbs (xPrime s x)) y) (reducedHalf s (natAbs (xPrime s x)) y)))
+
+-- ---- the same in halves: the figures as they are read, and the work on figures alone, which other ways to the figures share. There are three of each, since approximate L decides
+-- which b is read. That the work on a sheet's figures gives the definitions above, `Longitudes` and `Distances` prove.
+-- "P is read at y, d at |x′|."
+unfoldable pub forReduction : List ℕ → ℕ → ℤ → ForReduction
+forReduction s x y = record { p = record { value = pAt s (natAbs y); half = pHalf s (natAbs y) }; d = record { value = dAt s x; half = dHalf s x } }
+
+unfoldable pub reducedBy : ForReduction → ℕ → ℤ → ℤ
+reducedBy f x y = y -ℤ reduction (f .p .value) x (f .d .value)
+
+unfoldable pub reducedByHalf : ForReduction → ℕ → Bool
+reducedByHalf f x = f .p .half || f .d .half || reductionHalf (f .p .value) x (f .d .value)
+
+-- "seconds = 60(reduced − y0)/(y0 next − y0), to 0.001"
+unfoldable pub secondsBy : ℤ → ℤ → ℤ → ℕ
+secondsBy y0 next reduced = seconds oneMinute (natAbs (reduced -ℤ y0)) (natAbs (next -ℤ y0))
+
+unfoldable pub secondsByHalf : ℤ → ℤ → ℤ → Bool
+secondsByHalf y0 next reduced = secondsHalf oneMinute (natAbs (reduced -ℤ y0)) (natAbs (next -ℤ y0))
+
+-- "Read H and a there."
+unfoldable pub takenAt : List ℕ → ℕ → Taken
+takenAt s t = record { h = record { value = hAt s t; half = hHalf s t }; a = record { value = aAt s t; half = aHalf s t } }
+
+unfoldable pub approximateBy : ℕ → ℕ → ℕ
+approximateBy h x = approximateL x h * 1_000
+
+-- "The size of L is (|x′| − a·b)/H to 0.001"
+unfoldable pub sizeBy : Taken → ℤ → ℕ → ℤ
+sizeBy f b x = sizeOfL x (f .a .value) b (f .h .value)
+
+unfoldable pub sizeByHalf : Taken → Rounded → ℕ → Bool → Bool
+sizeByHalf f b x met = f .h .half || f .a .half || met || b .half || sizeOfLHalf x (f .a .value) (b .value) (f .h .value)

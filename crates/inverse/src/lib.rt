@@ -1,22 +1,24 @@
 // Plane to geographic, on a sheet known to pass, with its places in hand: 12, 13, 14, 11, or latitude and longitude.
 use entries::Places;
+use reading::At;
 use rounding::Rounded;
 use rounding::RoundedSize;
-use tables::At;
 use tables::Origin;
 ghost use mathlib.Core.Path.{_≡_};
 ghost use mathlib.Core.Bool.{true};
 ghost use Prim.Native.Nat.{_+_, _-_, _*_, _^_, _<_, _≤_, min};
-ghost use lib.IntN.{pos, natAbs, _-ℤ_};
-ghost use lib.Signed.{leZ};
-ghost use Rattle.rounding.specs.Ranges.{mostGap};
+ghost use lib.Dec.{T};
+ghost use lib.IntN.{pos, natAbs, _-ℤ_, _*ℤ_};
+ghost use lib.Signed.{leZ, nonNeg};
+ghost use Rattle.rounding.specs.Ranges.{mostGap, mostP, mostD, mostX, mostA, mostB, mostH};
+ghost use Rattle.steps.specs.Steps.{approximateLHalf};
 ghost use Rattle.entries.specs.Layout.{latitude, easting, oneMinute};
 ghost use Rattle.entries.specs.Entries.{rowsOf, Within};
 ghost use Rattle.sheet_check.specs.Check.{checkOf, KnownToPass};
-ghost use Rattle.steps.specs.Steps.{approximateLHalf};
-ghost use Rattle.tables.specs.Figures.{originOf, hAt};
+ghost use Rattle.reading.specs.Tables.{offsetOf};
+ghost use Rattle.tables.specs.Figures.{InTable, originOf};
 ghost use Rattle.extent.specs.Extent.{sizeKnown, eastingKnown, northingKnown, reducedKnown};
-ghost use Rattle.inverse.specs.Inverse.{reducedNorthing, reducedHalf, rowOf, distanceOf, distanceHalf, approximateOf, sizeOf, sizeHalf, geographicAt, fromDistance, fromReduced, inverseOf};
+ghost use Rattle.inverse.specs.Inverse.{reducedNorthing, reducedHalf, rowOf, distanceOf, distanceHalf, sizeOf, sizeHalf, geographicAt, fromDistance, fromReduced, inverseOf, forReduction, reducedBy, reducedByHalf, secondsBy, secondsByHalf, takenAt, approximateBy, sizeBy, sizeByHalf};
 
 // A point on the earth: latitude and west longitude in 0.001″, and whether some rounding on the way to them met a half. A refusal has its number, zeros and no half.
 pub struct Geographic {
@@ -26,18 +28,43 @@ pub struct Geographic {
     pub half: bool,
 }
 
-// The reduced northing, in 0.01 ft, at the size x of x′ and y. P and d are read at once.
+// What the reduced northing is worked from, as it was read: P at y, d at the size of x′.
+pub struct ForReduction {
+    pub p: RoundedSize,
+    pub d: Rounded,
+}
+
+// Reading: P and d of a point within their tables.
+fn for_reduction(s: &[u8], p: Places, x: u64, y: i32) -> ForReduction
+    requires { ⌜ KnownToPass (now s) p × Within (now s) easting x × (northingKnown (now s) y ≡ true) ⌝ }
+    ensures { λ r. ⌜ (r ≡ forReduction (now (s .entry)) x y) × (r .p .value ≤ mostP) × (natAbs (r .d .value) ≤ mostD) ⌝ }
+{
+    let north = extent::position(s, p.northing, entries::NORTHING, (y as i64) as u64);
+    let east = extent::position(s, p.easting, entries::EASTING, x);
+    ForReduction {
+        p: tables::p_at(s, p, north),
+        d: tables::d_at(s, p, east),
+    }
+}
+
+// Working: the reduced northing, in 0.01 ft.
+pub fn reduced_of(f: ForReduction, x: u64, y: i32) -> Rounded
+    requires { ⌜ (f .p .value ≤ mostP) × (x ≤ mostX) × (natAbs (f .d .value) ≤ mostD) ⌝ }
+    ensures { λ r. ⌜ (r .value ≡ reducedBy f x y) × (natAbs (r .value) < 2 ^ 62) × (r .half ≡ reducedByHalf f x) ⌝ }
+{
+    let reduction = steps::reduction(f.p.value, x, f.d.value);
+    Rounded {
+        value: (y as i64) - reduction.value,
+        half: f.p.half | f.d.half | reduction.half,
+    }
+}
+
+// The reduced northing, in 0.01 ft, at the size x of x′ and y.
 pub fn reduced_northing(s: &[u8], p: Places, x: u64, y: i32) -> Rounded
     requires { ⌜ KnownToPass (now s) p × Within (now s) easting x × (northingKnown (now s) y ≡ true) ⌝ }
     ensures { λ r. ⌜ (r .value ≡ reducedNorthing (now (s .entry)) x y) × (natAbs (r .value) < 2 ^ 62) × (r .half ≡ reducedHalf (now (s .entry)) x y) ⌝ }
 {
-    let north = y as i64;
-    let read = tables::for_reduction(s, p, north as u64, x);
-    let reduction = steps::reduction(read.p.value, x, read.d.value);
-    Rounded {
-        value: north - reduction.value,
-        half: read.p.half | read.d.half | reduction.half,
-    }
+    reduced_of(for_reduction(s, p, x, y), x, y)
 }
 
 // How far high stands above low, both northings in 0.01 ft.
@@ -48,49 +75,70 @@ fn above(low: i64, high: i64) -> u64
     (high - low) as u64
 }
 
-// The seconds of the reduced northing past its row, in 0.001″, or past the one before where its row is the last. There they are the whole step and no half.
+// Working: the seconds of the reduced northing past a row, in 0.001″, from the row's y0 and the next row's.
+pub fn seconds_between(y0: i64, next: i64, reduced: i64) -> RoundedSize
+    requires { ⌜ (natAbs y0 ≤ mostGap) × (natAbs next ≤ mostGap) × (natAbs reduced ≤ mostGap) × (leZ y0 reduced ≡ true) × (leZ y0 next ≡ true) × (0 < natAbs (next -ℤ y0)) × (natAbs (reduced -ℤ y0) ≤ natAbs (next -ℤ y0)) × (natAbs (next -ℤ y0) ≤ mostGap) ⌝ }
+    ensures { λ r. ⌜ (r .value ≡ secondsBy y0 next reduced) × (r .half ≡ secondsByHalf y0 next reduced) ⌝ }
+{
+    steps::seconds(entries::ONE_MINUTE, above(y0, reduced), above(y0, next))
+}
+
+// The seconds past its row, or past the one before where its row is the last. There they are the whole step and no half.
 fn seconds_past(s: &[u8], p: Places, reduced: i64, row: usize) -> RoundedSize
     requires { ⌜ KnownToPass (now s) p × (reducedKnown (now s) reduced ≡ true) × (row ≡ min (rowOf (now s) reduced) (rowsOf (now s) latitude - 2)) ⌝ }
     ensures { λ r. ⌜ (row * oneMinute + r .value ≡ distanceOf (now (s .entry)) reduced) × (r .value ≤ oneMinute) × (r .half ≡ distanceHalf (now (s .entry)) reduced) ⌝ }
 {
     let y0 = tables::y0_of(s, p, row);
-    let next = tables::y0_of(s, p, row + 1);
-    steps::seconds(entries::ONE_MINUTE, above(y0, reduced), above(y0, next))
+    seconds_between(y0, tables::y0_of(s, p, row + 1), reduced)
 }
 
-// Approximate L, in 0.001″, at the size x of x′ and the latitude's place.
-fn approximate_of(s: &[u8], p: Places, x: u64, at: At) -> RoundedSize
-    requires { ⌜ KnownToPass (now s) p × Within (now s) easting x × (at .row + 1 < rowsOf (now s) latitude) × (at .past ≤ oneMinute) ⌝ }
-    ensures { λ r. ⌜ (r .value ≡ approximateOf (now (s .entry)) x (at .row * oneMinute + at .past)) × (r .value ≤ 30_000_000) × (r .half ≡ approximateLHalf x (hAt (now (s .entry)) (at .row * oneMinute + at .past))) ⌝ }
+// What L is worked from, beside b, as it was read: H and a at the latitude's place.
+pub struct Taken {
+    pub h: RoundedSize,
+    pub a: Rounded,
+}
+
+// Reading: H and a.
+fn taken_at(s: &[u8], p: Places, at: At) -> Taken
+    requires { ⌜ KnownToPass (now s) p × InTable (now s) latitude at ⌝ }
+    ensures { λ r. ⌜ (r ≡ takenAt (now (s .entry)) (offsetOf at)) × (30_000_000 ≤ r .h .value) × (r .h .value ≤ mostH) × (natAbs (r .a .value) ≤ mostA) ⌝ }
 {
-    let l = steps::approximate_l(x, tables::h_past(s, p, at).value);
+    Taken {
+        h: tables::h_at(s, p, at),
+        a: tables::a_at(s, p, at),
+    }
+}
+
+// Working: approximate L, in 0.001″, at the size x of x′.
+pub fn approximate_of(h: RoundedSize, x: u64) -> RoundedSize
+    requires { ⌜ (x ≤ mostX) × (30_000_000 ≤ h .value) × (h .value ≤ mostH) ⌝ }
+    ensures { λ r. ⌜ (r .value ≡ approximateBy (h .value) x) × (r .value ≤ 30_000_000) × (r .half ≡ approximateLHalf x (h .value)) ⌝ }
+{
+    let l = steps::approximate_l(x, h.value);
     RoundedSize {
         value: l.value * 1_000,
         half: l.half,
     }
 }
 
-// The size of L there, in 0.001″.
-fn size_of(s: &[u8], p: Places, x: u64, at: At, approximate: RoundedSize) -> Rounded
-    requires { ⌜ KnownToPass (now s) p × Within (now s) easting x × (at .row + 1 < rowsOf (now s) latitude) × (at .past ≤ oneMinute) × (approximate .value ≡ approximateOf (now s) x (at .row * oneMinute + at .past)) × (sizeKnown (now s) (pos (approximate .value)) ≡ true) × (approximate .half ≡ approximateLHalf x (hAt (now s) (at .row * oneMinute + at .past))) ⌝ }
-    ensures { λ r. ⌜ (r .value ≡ sizeOf (now (s .entry)) x (at .row * oneMinute + at .past)) × (r .half ≡ sizeHalf (now (s .entry)) x (at .row * oneMinute + at .past)) ⌝ }
+// Working: the size of L, in 0.001″, with b read at approximate L. `met`, here and below: some rounding before met a half.
+pub fn size_of(f: Taken, b: Rounded, x: u64, met: bool) -> Rounded
+    requires { ⌜ (x ≤ mostX) × (natAbs (f .a .value) ≤ mostA) × (natAbs (b .value) ≤ mostB) × (30_000_000 ≤ f .h .value) × (f .h .value ≤ mostH) × T (nonNeg (pos (x * 10_000) -ℤ f .a .value *ℤ b .value)) ⌝ }
+    ensures { λ r. ⌜ (r .value ≡ sizeBy f (b .value) x) × (r .half ≡ sizeByHalf f b x met) ⌝ }
 {
-    let b = tables::b_at(s, p, approximate.value);
-    let h = tables::h_past(s, p, at);
-    let a = tables::a_past(s, p, at);
-    let l = steps::size_of_l(x, a.value, b.value, h.value);
+    let l = steps::size_of_l(x, f.a.value, b.value, f.h.value);
     Rounded {
         value: l.value as i64,
-        half: h.half | a.half | approximate.half | b.half | l.half,
+        half: f.h.half | f.a.half | met | b.half | l.half,
     }
 }
 
 // The point on the earth, of x′, the latitude's place and the size of L, which is within its table. Its numbers are measured from the sheet's origin, and no table is read.
 fn geographic_at(s: &[u8], o: Origin, xp: i64, at: At, size: Rounded, met: bool) -> Geographic
-    requires { ⌜ (checkOf (now s) .number ≡ 0) × (o ≡ originOf (now s)) × (at .row + 1 < rowsOf (now s) latitude) × (at .past ≤ oneMinute) × (size .value ≡ sizeOf (now s) (natAbs xp) (at .row * oneMinute + at .past)) × (sizeKnown (now s) (size .value) ≡ true) × (size .half ≡ sizeHalf (now s) (natAbs xp) (at .row * oneMinute + at .past)) ⌝ }
-    ensures { λ r. ⌜ r ≡ geographicAt (now (s .entry)) xp (at .row * oneMinute + at .past) met ⌝ }
+    requires { ⌜ (checkOf (now s) .number ≡ 0) × (o ≡ originOf (now s)) × InTable (now s) latitude at × (size .value ≡ sizeOf (now s) (natAbs xp) (offsetOf at)) × (sizeKnown (now s) (size .value) ≡ true) × (size .half ≡ sizeHalf (now s) (natAbs xp) (offsetOf at)) ⌝ }
+    ensures { λ r. ⌜ r ≡ geographicAt (now (s .entry)) xp (offsetOf at) met ⌝ }
 {
-    let t = (at.row as u64) * entries::ONE_MINUTE + at.past;
+    let t = (at.row as u64) * (at.step as u64) + (at.past as u64);
     Geographic {
         number: 0,
         latitude: (o.first_latitude + (t as i64)) as i32,
@@ -99,13 +147,14 @@ fn geographic_at(s: &[u8], o: Origin, xp: i64, at: At, size: Rounded, met: bool)
     }
 }
 
-// 11, or the point on the earth, from x′ and the latitude's place. `met`, here and below: some rounding before met a half.
+// 11, or the point on the earth, from x′ and the latitude's place.
 fn from_distance(s: &[u8], p: Places, o: Origin, xp: i64, at: At, met: bool) -> Geographic
-    requires { ⌜ KnownToPass (now s) p × (o ≡ originOf (now s)) × (eastingKnown (now s) xp ≡ true) × (at .row + 1 < rowsOf (now s) latitude) × (at .past ≤ oneMinute) ⌝ }
-    ensures { λ r. ⌜ r ≡ fromDistance (now (s .entry)) xp (at .row * oneMinute + at .past) met ⌝ }
+    requires { ⌜ KnownToPass (now s) p × (o ≡ originOf (now s)) × (eastingKnown (now s) xp ≡ true) × InTable (now s) latitude at ⌝ }
+    ensures { λ r. ⌜ r ≡ fromDistance (now (s .entry)) xp (offsetOf at) met ⌝ }
 {
     let x = rounding::size(xp);
-    let approximate = approximate_of(s, p, x, at);
+    let taken = taken_at(s, p, at);
+    let approximate = approximate_of(taken.h, x);
     if !extent::size_known(s, p, approximate.value as i64) {
         return Geographic {
             number: 11,
@@ -114,7 +163,8 @@ fn from_distance(s: &[u8], p: Places, o: Origin, xp: i64, at: At, met: bool) -> 
             half: false,
         };
     }
-    let size = size_of(s, p, x, at, approximate);
+    let west = extent::position(s, p.longitude, entries::LONGITUDE, approximate.value);
+    let size = size_of(taken, tables::b_at(s, p, west), x, approximate.half);
     if !extent::size_known(s, p, size.value) {
         return Geographic {
             number: 11,
@@ -126,7 +176,7 @@ fn from_distance(s: &[u8], p: Places, o: Origin, xp: i64, at: At, met: bool) -> 
     geographic_at(s, o, xp, at, size, met)
 }
 
-// 14, 11, or the point on the earth, from x′ and the reduced northing.
+// 14, 11, or the point on the earth, from x′ and the reduced northing. The row that is found and the seconds past it are the latitude's place.
 fn from_reduced(s: &[u8], p: Places, o: Origin, xp: i64, reduced: i64, met: bool) -> Geographic
     requires { ⌜ KnownToPass (now s) p × (o ≡ originOf (now s)) × (eastingKnown (now s) xp ≡ true) × (natAbs reduced < 2 ^ 62) ⌝ }
     ensures { λ r. ⌜ r ≡ fromReduced (now (s .entry)) xp reduced met ⌝ }
@@ -143,7 +193,8 @@ fn from_reduced(s: &[u8], p: Places, o: Origin, xp: i64, reduced: i64, met: bool
     let seconds = seconds_past(s, p, reduced, row);
     let at = At {
         row,
-        past: seconds.value,
+        past: seconds.value as u32,
+        step: entries::ONE_MINUTE as u32,
     };
     from_distance(s, p, o, xp, at, met | seconds.half)
 }

@@ -17,7 +17,7 @@ use Rattle.rounding.proofs.Interval.{exact-row, exact-next}
 use Rattle.words.specs.Words.{wordAt}
 use Rattle.rounding.specs.Ranges.{mostStep}
 use Rattle.reading.specs.declared.At.{At}
-use Rattle.reading.specs.Tables.{column, pastRow, pastRowHalf, valueAt, valueHalf, offsetOf, Stepped, Among, NotNegative}
+use Rattle.reading.specs.Tables.{column, pastRow, pastRowHalf, valueAt, valueHalf, offsetOf, Among, NotNegative}
 use Rattle.reading.proofs.Within.{next-within}
 
 -- the next row's word

@@ -15,7 +15,6 @@ use Rattle.tables.proofs.Answers.{size-is, size-fits}
 use Rattle.tables.proofs.Origins.{easting-held}
 use Rattle.extent.specs.Extent.{fromFirst, lOf}
 use Rattle.extent.proofs.Reach.{latitude-reach, latitude-small, latitude-within, longitude-within}
-use Rattle.forward.specs.Forward.{Workable}
 use Rattle.forward.proofs.Eastings.{plane-worked, taken-workable}
 use borrow.Author.Needs.{needs}
 use Rattle.forward.proofs.plane_at.Statement.{statement}

@@ -15,7 +15,9 @@ use Rattle.rounding.proofs.Holds.{Holds, held-size, sum, sum-fits, difference, 
 use Rattle.entries.specs.Layout.{latitude, farthest}
 use Rattle.tables.specs.Figures.{centralMeridian, firstLatitude}
 use Rattle.tables.proofs.Origins.{first-held, central-held}
-use Rattle.tables.proofs.Past.{distanceAt, past-reach}
+use Rattle.reading.specs.Tables.{offsetOf}
+use Rattle.tables.proofs.Parts.{table-within}
+use Rattle.tables.proofs.Ranges.{minutes-most}
 use Rattle.extent.proofs.Reach.{latitude-span, longitude-span, size-reach}
 use Rattle.inverse.specs.Inverse.{sizeOf, longitudeOf}
 use Rattle.inverse.proofs.Longitudes.{geographic-worked}
@@ -25,10 +27,10 @@ use Rattle.inverse.proofs.geographic_at.Statement.{statement}
 use Rattle.inverse.proofs.geographic_at.Tie as tie
 
 -- the latitude, and the longitude, as they were worked
-distance-most : (c : tie.Start) → distanceAt (c .args .at) ≤ farthest latitude
-distance-most c = le-trans (past-reach _ _ _ _ (c .pre .2) (c .pre .3)) (latitude-span _ (c .pre .0))
+distance-most : (c : tie.Start) → offsetOf (c .args .at) ≤ farthest latitude
+distance-most c = le-trans (minutes-most _ (c .pre .0) _ (table-within _ _ _ (c .pre .2))) (latitude-span _ (c .pre .0))
 
-distance : (c : tie.Start) → Holds w64 (distanceAt (c .args .at)) (pos (distanceAt (c .args .at))) (farthest latitude)
+distance : (c : tie.Start) → Holds w64 (offsetOf (c .args .at)) (pos (offsetOf (c .args .at))) (farthest latitude)
 distance c = held-size w64 (distance-most c) tt
 
 first : (c : tie.Start) → Holds w64 (ofZ w64 (c .args .o .«first_latitude»)) (firstLatitude (now (c .args .s))) 324_000_000
@@ -41,68 +43,47 @@ size-is : (c : tie.Start) → toZ w64 (ofZ w64 (c .args .size .value)) ≡ c .ar
 size-is c = search needs
 
 size-small : (c : tie.Start) → natAbs (c .args .size .value) ≤ mostS
-size-small c = le-trans (size-reach _ _ (c .pre .5) .high) (longitude-span _ (c .pre .0))
+size-small c = le-trans (size-reach _ _ (c .pre .4) .high) (longitude-span _ (c .pre .0))
 
-l-is : (c : tie.After-with-sign)
-    → let args = c .before .before .before .before .before .before .args in
-    Holds w64 (ofZ w64 (c .with-sign .result)) (withSign (args .xp) (sizeOf (now (args .s)) (natAbs (args .xp)) (distanceAt (args .at)))) mostS
-l-is c =
-    let start = c .before .before .before .before .before .before in
-    let xp : toZ w64 (ofZ w64 (start .args .xp)) ≡ start .args .xp = search needs in
-    let same = both-same withSign xp (size-is start ∙ start .pre .4) in
-    bits-hold (c .with-sign .ok) (c .with-sign .ensures ∙ same) (rw (size-withSign, ← start .pre .4) (size-small start))
+-- L, with its sign
+module _ (c : tie.After-with-sign) where
+  abbrev start : tie.Start
+  start = c .before .before .before .before .before .before .before
+
+  l-held : let args = start .args in Holds w64 (ofZ w64 (c .with-sign .result)) (withSign (args .xp) (sizeOf (now (args .s)) (natAbs (args .xp)) (offsetOf (args .at)))) mostS
+  l-held =
+      let xp : toZ w64 (ofZ w64 (start .args .xp)) ≡ start .args .xp = search needs in
+      let same = both-same withSign xp (size-is start ∙ start .pre .3) in
+      bits-hold (c .with-sign .ok) (c .with-sign .ensures ∙ same) (rw (size-withSign, ← start .pre .3) (size-small start))
 
 returns : tie.Need-returns
 unfolding longitudeOf
 returns c =
-    let worked = c .before .before .before in
-    let start = worked .before .before .before .before .before .before in
-    let north = cast (sum (first start) (distance start) tt) tt in
-    let west = cast (difference (central start) (l-is worked) tt) tt in
-    geographic-worked _ _ _ _ (north .is) refl (west .is) refl (start .pre .6)
+    let signed = c .before .before .before in
+    let north = cast (sum (first (start signed)) (distance (start signed)) tt) tt in
+    let west = cast (difference (central (start signed)) (l-held signed) tt) tt in
+    geographic-worked _ _ _ _ (north .is) refl (west .is) refl (start signed .pre .5)
 
-mul-t : tie.Need-mul-t
-mul-t c = record { fits = omega (arith, distance-most (c .before)) }
-
-add-t : tie.Need-add-t
-add-t c = record { fits = omega (arith, distance-most (c .before .before)) }
-
-cast-t10 : tie.Need-cast-t10
-cast-t10 c = record { sfits = omega (arith, distance-most (c .before .before)) }
-
-add-t11 : tie.Need-add-t11
-add-t11 c =
-    let start = c .before .before .before .before in
-    sum-fits (first start) (distance start) tt
-
-cast-t12 : tie.Need-cast-t12
-cast-t12 c =
-    let start = c .before .before .before .before in
-    cast-fits (sum (first start) (distance start) tt) tt
+-- the place before a need
+module _ (c : tie.After-struct-told) where
+  abbrev told : tie.Start
+  told = c .before .before .before .before .before
 
 with-sign-requires : tie.Need-with-sign-requires
-with-sign-requires c κs = rw (size-is (c .before .before .before .before .before)) (lt-of-le-of-lt (size-small (c .before .before .before .before .before)) (lit< tt))
-
-sub-t14 : tie.Need-sub-t14
-sub-t14 c =
-    let worked = c .before .before in
-    difference-fits (central (worked .before .before .before .before .before .before)) (l-is worked) tt
-
-cast-t15 : tie.Need-cast-t15
-cast-t15 c =
-    let worked = c .before .before in
-    cast-fits (difference (central (worked .before .before .before .before .before .before)) (l-is worked) tt) tt
+with-sign-requires c κs = rw (size-is (told (c .before))) (lt-of-le-of-lt (size-small (told (c .before))) (lit< tt))
 
 pub geographic-at-spec : {M : Type 1} → statement M
 geographic-at-spec =
     tie.close
     (tie.spec
-    mul-t
-    add-t
-    cast-t10
-    add-t11
-    cast-t12
+    (λ c. search needs)
+    (λ c. record { fits = omega (arith, distance-most (c .before .before)) })
+    (λ c. search needs)
+    (λ c. record { fits = omega (arith, distance-most (c .before .before .before)) })
+    (λ c. record { sfits = omega (arith, distance-most (c .before .before .before)) })
+    (λ c. sum-fits (first (told c)) (distance (told c)) tt)
+    (λ c. cast-fits (sum (first (told c)) (distance (told c)) tt) tt)
     with-sign-requires
-    sub-t14
-    cast-t15
+    (λ c. let signed = c .before .before in difference-fits (central (start signed)) (l-held signed) tt)
+    (λ c. let signed = c .before .before in cast-fits (difference (central (start signed)) (l-held signed) tt) tt)
     returns)
