@@ -5,29 +5,43 @@ ghost use mathlib.Core.Path.{_≡_};
 ghost use Prim.Native.Nat.{_*_, _<_, _≤_};
 ghost use lib.ListN.{length};
 ghost use Rattle.refusals.specs.Faults.{firstFault};
-ghost use Rattle.entries.specs.Layout.{latitude, lastKind, widthOf, rowBytes};
+ghost use Rattle.entries.specs.Layout.{latitude, longitude, lastKind, widthOf, rowBytes};
 ghost use Rattle.contents.specs.Contents.{contentsOf};
 ghost use Rattle.latitude_rows.specs.Rows.{latitudeFault};
+ghost use Rattle.small_rows.specs.SmallRows.{longitudeFault};
 ghost use Rattle.sheet_check.specs.Check.{rowFault, faultOf, checkOf};
 
-// The number of the fault of row i of a body with n rows, of any kind but latitude: the part goes to its kind's checker.
+// The number of the fault of longitude row i, one of n. The last row has no next.
+fn longitude_fault(b: &[u8], n: usize, i: usize) -> u32
+    requires { ⌜ (rowBytes longitude * n ≤ length (now b)) × (i < n) ⌝ }
+    ensures { λ r. ⌜ r ≡ longitudeFault (now (b .entry)) n i ⌝ }
+{
+    let row = small_rows::longitude_at(b, i);
+    if i + 1 < n {
+        let next = small_rows::longitude_at(b, i + 1);
+        return small_rows::longitude_row(row, next, i == 0, false);
+    }
+    small_rows::longitude_row(row, row, i == 0, true)
+}
+
+// The number of the fault of row i of a body with n rows, of any kind but latitude: the row is read, and goes to its kind's checker.
 fn row_fault(kind: usize, b: &[u8], n: usize, i: usize) -> u32
     requires { ⌜ (1 ≤ kind) × (kind ≤ lastKind) × (kind ≡ latitude → ⊥) × (4 * (n * widthOf kind) ≤ length (now b)) × (i < n) ⌝ }
     ensures { λ r. ⌜ r ≡ rowFault kind (now (b .entry)) n i ⌝ }
 {
     if kind == entries::ZONE {
-        return small_rows::zone_row(b, i);
+        return small_rows::zone_row(small_rows::zone_at(b, i));
     }
     if kind == entries::LONGITUDE {
-        return small_rows::longitude_row(b, n, i);
+        return longitude_fault(b, n, i);
     }
     if kind == entries::NORTHING {
-        return small_rows::northing_row(b, i);
+        return small_rows::northing_row(small_rows::northing_at(b, i));
     }
     if kind == entries::EASTING {
-        return small_rows::easting_row(b, i);
+        return small_rows::easting_row(small_rows::easting_at(b, i), i == 0);
     }
-    small_rows::scale_row(b, i)
+    small_rows::scale_row(small_rows::scale_at(b, i))
 }
 
 // The first fault of a body with n rows, of any kind but latitude.

@@ -12,7 +12,7 @@ use Rattle.refusals.specs.Tests.{inRange, sameAs}
 use Rattle.rules.specs.Limits.{rises}
 use Rattle.rules.specs.Latitude.{figuresInRange, withinBounds, differencesOf, noDifferences, sameDifferences}
 use Rattle.latitude_rows.specs.Rows.{figuresAt, differencesAt, rowInRange, pairFault, lastFault, latitudeFault}
-use Rattle.small_rows.specs.SmallRows.{zeroFirst, zoneFault, longitudeFault, northingFault, eastingFault, scaleFault}
+use Rattle.small_rows.specs.SmallRows.{zeroWhere, zoneRowFault, zoneFault, longitudeRowFault, longitudeFault, northingRowFault, northingFault, eastingRowFault, eastingFault, scaleRowFault, scaleFault}
 use Rattle.entries.specs.Layout.{formNamed}
 use Rattle.entries.specs.Entries.{named, dueAt, entryOf, theEntry, startOf, rowsOf, stepOf, bodyOf}
 use Rattle.contents.specs.Contents.{within, entryFault, sized, contentsBy, contentsOf}
@@ -68,11 +68,11 @@ half-a-holds = refl
 
 -- ---- a check
 row2048-holds : Holds row2048
-unfolding withSign nearestSize nearest perSecond unsignedAt signed32 wordAt bits32 need whereBelow whereIs orElse firstFault inRange rises sameAs figuresInRange withinBounds differencesOf noDifferences sameDifferences figuresAt differencesAt rowInRange pairFault lastFault latitudeFault zeroFirst zoneFault longitudeFault northingFault eastingFault scaleFault formNamed named dueAt entryOf theEntry startOf rowsOf stepOf bodyOf within entryFault sized contentsBy contentsOf rowFault bodiesOf checkOf bytesOf from2047 row2048
+unfolding withSign nearestSize nearest perSecond unsignedAt signed32 wordAt bits32 need whereBelow whereIs orElse firstFault inRange rises sameAs figuresInRange withinBounds differencesOf noDifferences sameDifferences figuresAt differencesAt rowInRange pairFault lastFault latitudeFault zeroWhere zoneRowFault zoneFault longitudeRowFault longitudeFault northingRowFault northingFault eastingRowFault eastingFault scaleRowFault scaleFault formNamed named dueAt entryOf theEntry startOf rowsOf stepOf bodyOf within entryFault sized contentsBy contentsOf rowFault bodiesOf checkOf bytesOf from2047 row2048
 row2048-holds = refl
 
 case-passes : checkOf caseSheet .number ≡ 0
-unfolding withSign nearestSize nearest perSecond unsignedAt signed32 wordAt bits32 need whereBelow whereIs orElse firstFault inRange rises sameAs figuresInRange withinBounds differencesOf noDifferences sameDifferences figuresAt differencesAt rowInRange pairFault lastFault latitudeFault zeroFirst zoneFault longitudeFault northingFault eastingFault scaleFault formNamed named dueAt entryOf theEntry startOf rowsOf stepOf bodyOf within entryFault sized contentsBy contentsOf rowFault bodiesOf checkOf bytesOf caseSheet
+unfolding withSign nearestSize nearest perSecond unsignedAt signed32 wordAt bits32 need whereBelow whereIs orElse firstFault inRange rises sameAs figuresInRange withinBounds differencesOf noDifferences sameDifferences figuresAt differencesAt rowInRange pairFault lastFault latitudeFault zeroWhere zoneRowFault zoneFault longitudeRowFault longitudeFault northingRowFault northingFault eastingRowFault eastingFault scaleRowFault scaleFault formNamed named dueAt entryOf theEntry startOf rowsOf stepOf bodyOf within entryFault sized contentsBy contentsOf rowFault bodiesOf checkOf bytesOf caseSheet
 case-passes = refl
 
 -- ---- the case sheet: it passes, so that each conversion is its steps

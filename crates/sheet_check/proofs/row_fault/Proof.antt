@@ -25,34 +25,38 @@ returns-4 : tie.Need-returns-4
 returns-4 c = search of-easting
 
 returns-5 : tie.Need-returns-5
-returns-5 c = of-scale _ _ _ _ _ (rest-is (c .before)) (c .scale-row .ensures)
+returns-5 c = search (of-scale, rest-is)
 
-zone-row-requires : tie.Need-zone-row-requires
-zone-row-requires c κs = search row-zone
+zone-at-requires : tie.Need-zone-at-requires
+zone-at-requires c κs = search row-zone
 
-longitude-row-requires : tie.Need-longitude-row-requires
-longitude-row-requires c κs = search (rows-longitude, needs)
+longitude-fault-requires : tie.Need-longitude-fault-requires
+longitude-fault-requires c κs = search (rows-longitude, needs)
 
-northing-row-requires : tie.Need-northing-row-requires
-northing-row-requires c κs = search row-northing
+northing-at-requires : tie.Need-northing-at-requires
+northing-at-requires c κs = search row-northing
 
-easting-row-requires : tie.Need-easting-row-requires
-easting-row-requires c κs = search row-easting
+easting-at-requires : tie.Need-easting-at-requires
+easting-at-requires c κs = search row-easting
 
-scale-row-requires : tie.Need-scale-row-requires
-scale-row-requires c κs = let s = c .before .before .before .before .before in row-scale _ _ _ (s .pre .3) _ (s .pre .4) (rest-is c)
+scale-at-requires : tie.Need-scale-at-requires
+scale-at-requires c κs = search (row-scale, rest-is)
 
 pub row-fault-spec : {M : Type 1} → statement M
 row-fault-spec =
     tie.close
     (tie.spec
-    zone-row-requires
+    zone-at-requires
+    (λ c κs. search needs)
     returns
-    longitude-row-requires
+    longitude-fault-requires
     returns-2
-    northing-row-requires
+    northing-at-requires
+    (λ c κs. search needs)
     returns-3
-    easting-row-requires
+    easting-at-requires
+    (λ c κs. search needs)
     returns-4
-    scale-row-requires
+    scale-at-requires
+    (λ c κs. search needs)
     returns-5)
