@@ -35,7 +35,7 @@ pub struct ForReduction {
 }
 
 // Reading: P and d of a point within their tables.
-fn for_reduction(s: &[u8], p: Places, x: u64, y: i32) -> ForReduction
+pub fn for_reduction(s: &[u8], p: Places, x: u64, y: i32) -> ForReduction
     requires { ⌜ KnownToPass (now s) p × Within (now s) easting x × (northingKnown (now s) y ≡ true) ⌝ }
     ensures { λ r. ⌜ (r ≡ forReduction (now (s .entry)) x y) × (r .p .value ≤ mostP) × (natAbs (r .d .value) ≤ mostD) ⌝ }
 {

@@ -2,6 +2,7 @@
 // sheet, from the figures that their forms print. Prints the answers by the rules; a comment says where a form prints another.
 use entries::Places;
 use libc::STDOUT_FILENO;
+use reading::At;
 ghost use mathlib.Core.Path.{_≡_};
 ghost use mathlib.Core.Bool.{true};
 ghost use Prim.Native.Nat.{_-_, _*_, _<_, _≤_};
@@ -13,6 +14,7 @@ ghost use Rattle.rounding.specs.Ranges.{mostH, mostV, mostA, mostB, mostC, most
 ghost use Rattle.entries.specs.Layout.{latitude, longitude, easting};
 ghost use Rattle.entries.specs.Entries.{Within};
 ghost use Rattle.sheet_check.specs.Check.{KnownToPass};
+ghost use Rattle.tables.specs.Figures.{InTable};
 ghost use Rattle.extent.specs.Extent.{latitudeKnown, longitudeKnown, northingKnown};
 
 // Latitude, longitude, x and y, each as the form prints it. Indiana, document 000.
@@ -67,24 +69,24 @@ fn print_line(letter: &[u8], first: i32, second: i32, number: u32, third: i32, f
 
 // ---- on a sheet
 
-// What the sheet has at the latitude's distance t from row 0.
-fn show_latitude(s: &[u8], p: Places, t: u64)
-    requires { ⌜ KnownToPass (now s) p × Within (now s) latitude t ⌝ }
+// What the sheet has at a latitude's place.
+fn show_latitude(s: &[u8], p: Places, at: At)
+    requires { ⌜ KnownToPass (now s) p × InTable (now s) latitude at ⌝ }
 {
-    print_figure(b" y0 ", tables::y0_at(s, p, t).value);
-    print_size(b" H ", tables::h_at(s, p, t).value);
-    print_size(b" V ", tables::v_at(s, p, t).value);
-    print_figure(b" a ", tables::a_at(s, p, t).value);
+    print_figure(b" y0 ", tables::y0_at(s, p, at).value);
+    print_size(b" H ", tables::h_at(s, p, at).value);
+    print_size(b" V ", tables::v_at(s, p, at).value);
+    print_figure(b" a ", tables::a_at(s, p, at).value);
 }
 
 // What it has at a size of L.
 fn show_longitude(s: &[u8], p: Places, size: u64)
     requires { ⌜ KnownToPass (now s) p × Within (now s) longitude size ⌝ }
 {
-    let read = tables::longitude_at(s, p, size);
+    let at = extent::position(s, p.longitude, entries::LONGITUDE, size);
     print_size(b" q ", steps::q_of(size).value);
-    print_figure(b" b ", read.b.value);
-    print_figure(b" c ", read.c.value);
+    print_figure(b" b ", tables::b_at(s, p, at).value);
+    print_figure(b" c ", tables::c_at(s, p, at).value);
 }
 
 // The figures of the way forward, of a latitude and a longitude within the tables.
@@ -94,7 +96,8 @@ fn show_point(s: &[u8], p: Places, latitude: i32, longitude: i32)
     let o = tables::origin_of(s, p);
     let t = extent::from_first(s, o, latitude) as u64;
     let l = extent::l_of(s, o, longitude);
-    show_latitude(s, p, t);
+    let north = extent::position(s, p.latitude, entries::LATITUDE, t);
+    show_latitude(s, p, north);
     print_figure(b" L ", l);
     show_longitude(s, p, rounding::size(l));
     print(b"\n");
@@ -120,13 +123,14 @@ fn forward(s: &[u8], p: Places, latitude: i32, longitude: i32)
 fn show_reduction(s: &[u8], p: Places, x: u64, y: i32)
     requires { ⌜ KnownToPass (now s) p × Within (now s) easting x × (northingKnown (now s) y ≡ true) ⌝ }
 {
-    let north = y as i64;
-    let read = tables::for_reduction(s, p, north as u64, x);
-    let reduction = steps::reduction(read.p.value, x, read.d.value).value;
+    let read = inverse::for_reduction(s, p, x, y);
     print_size(b" P ", read.p.value);
     print_figure(b" d ", read.d.value);
-    print_figure(b" reduction ", reduction);
-    print_figure(b" reduced ", north - reduction);
+    print_figure(
+        b" reduction ",
+        steps::reduction(read.p.value, x, read.d.value).value,
+    );
+    print_figure(b" reduced ", inverse::reduced_of(read, x, y).value);
     print(b"\n");
 }
 

@@ -33,9 +33,6 @@ loop-holds : tie.Need-loop-holds Inv-loop μ-loop
 unfolding words answered
 loop-holds c = (search needs, refl, refl, refl, search needs)
 
-loop-less : tie.Need-loop-less Inv-loop μ-loop
-loop-less c = search needs
-
 loop-again : tie.Need-loop-again Inv-loop μ-loop
 loop-again c =
     let t = c .before .answer-one in
@@ -66,9 +63,6 @@ add-count c =
     let fits = room _ _ (start .pre .1) in
     record { fits = omega (arith, fits .0, c .before .answer-one .ensures .1, c .before .before .before .before .loop .inv .4) }
 
-add-i : tie.Need-add-i Inv-loop μ-loop
-add-i c = search needs
-
 pub answer-all-spec : {M : Type 1} → statement M
 answer-all-spec =
     tie.close
@@ -79,8 +73,8 @@ answer-all-spec =
     loop-holds
     answer-one-requires
     add-count
-    add-i
-    loop-less
+    (λ c. search needs)
+    (λ c. search needs)
     loop-again
     same-length
     returns)

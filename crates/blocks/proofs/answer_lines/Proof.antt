@@ -21,35 +21,11 @@ Inv-loop s p buffer from to out₀ i₀ at₀ end₀ out i at end = Working (ans
 abbrev μ-loop : tie.MeasureT-loop
 μ-loop s p buffer from to out₀ i₀ at₀ end₀ out i at end = to - i
 
-line-end-requires : tie.Need-line-end-requires Inv-loop μ-loop
-line-end-requires c κs = search needs
-
 loop-holds : tie.Need-loop-holds Inv-loop μ-loop
 loop-holds c =
     let first = c .before .before .before .before in
     let a = first .args in
     (start (answering (now (a .s))) lineRoom (now (a .buffer)) _ _ tt (now (a .out)) (first .pre .1), c .line-end .ensures .0, c .line-end .ensures .1, refl)
-
-sub-answer : tie.Need-sub-answer Inv-loop μ-loop
-sub-answer c = search needs
-
-part-answer-start : tie.Need-part-answer-start Inv-loop μ-loop
-part-answer-start c = search needs
-
-part-answer-end : tie.Need-part-answer-end Inv-loop μ-loop
-part-answer-end c = search needs
-
-answer-requires : tie.Need-answer-requires Inv-loop μ-loop
-answer-requires c κs = search needs
-
-add-i : tie.Need-add-i Inv-loop μ-loop
-add-i c = search needs
-
-line-end-requires-2 : tie.Need-line-end-requires-2 Inv-loop μ-loop
-line-end-requires-2 c κs = search needs
-
-loop-less : tie.Need-loop-less Inv-loop μ-loop
-loop-less c = search needs
 
 loop-again : tie.Need-loop-again Inv-loop μ-loop
 loop-again c =
@@ -58,9 +34,6 @@ loop-again c =
     let l = turn .before .loop in
     let first = turn .before .before .before .before .before .before in
     (one-more (l .inv .0) (first .pre .2) _ (l .inv .1) (turn .loop-test .taken) (put .ensures .1) (put .ensures .0), c .line-end2 .ensures .0, c .line-end2 .ensures .1, put .kept .1 .1 .1 .0 ∙ l .inv .3)
-
-same-length : tie.Need-same-length Inv-loop μ-loop
-same-length c = search needs
 
 returns : tie.Need-returns Inv-loop μ-loop
 returns c =
@@ -75,15 +48,15 @@ answer-lines-spec =
     (tie.spec
     Inv-loop
     μ-loop
-    line-end-requires
+    (λ c κs. search needs)
     loop-holds
-    sub-answer
-    part-answer-start
-    part-answer-end
-    answer-requires
-    add-i
-    line-end-requires-2
-    loop-less
+    (λ c. search needs)
+    (λ c. search needs)
+    (λ c. search needs)
+    (λ c κs. search needs)
+    (λ c. search needs)
+    (λ c κs. search needs)
+    (λ c. search needs)
     loop-again
-    same-length
+    (λ c. search needs)
     returns)

@@ -28,27 +28,12 @@ returns c = search here
 returns-2 : tie.Need-returns-2 Inv-loop μ-loop
 returns-2 c = search end
 
-first-body-requires : tie.Need-first-body-requires Inv-loop μ-loop
-first-body-requires c κs = search needs
-
 loop-holds : tie.Need-loop-holds Inv-loop μ-loop
 unfolding dueAt
 loop-holds c = (omega arith, search needs, omega arith, rw sub-zero)
 
-entry-fault-requires : tie.Need-entry-fault-requires Inv-loop μ-loop
-entry-fault-requires c κs = search needs
-
 span-at-requires : tie.Need-span-at-requires Inv-loop μ-loop
 span-at-requires c κs = search (fault-known, needs)
-
-add-due : tie.Need-add-due Inv-loop μ-loop
-add-due c = search needs
-
-add-e : tie.Need-add-e Inv-loop μ-loop
-add-e c = search needs
-
-loop-less : tie.Need-loop-less Inv-loop μ-loop
-loop-less c = search needs
 
 loop-again : tie.Need-loop-again Inv-loop μ-loop
 loop-again c = (omega arith, search due-next, omega arith, search on)
@@ -59,13 +44,13 @@ entries-spec =
     (tie.spec
     Inv-loop
     μ-loop
-    first-body-requires
+    (λ c κs. search needs)
     loop-holds
-    entry-fault-requires
+    (λ c κs. search needs)
     returns
     span-at-requires
-    add-due
-    add-e
-    loop-less
+    (λ c. search needs)
+    (λ c. search needs)
+    (λ c. search needs)
     loop-again
     returns-2)

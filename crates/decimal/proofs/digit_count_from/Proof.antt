@@ -35,15 +35,9 @@ loop-holds c = c .pre
 loop-again : tie.Need-loop-again Inv-loop μ-loop
 loop-again c = next-place _ _ _ (c .before .before .loop .inv) (omega arith) (c .if1 .left)
 
-loop-less : tie.Need-loop-less Inv-loop μ-loop
-loop-less c = search needs
-
 -- ---- what its operations ask
 mul-limit : tie.Need-mul-limit Inv-loop μ-loop
 mul-limit c = record { fits = limit-small _ _ _ (c .before .before .loop .inv) (omega arith) }
-
-add-k : tie.Need-add-k Inv-loop μ-loop
-add-k c = search needs
 
 pub digit-count-from-spec : {M : Type 1} → statement M
 digit-count-from-spec =
@@ -54,8 +48,8 @@ digit-count-from-spec =
     loop-holds
     returns
     mul-limit
-    add-k
-    loop-less
+    (λ c. search needs)
+    (λ c. search needs)
     loop-again
     returns-2
     returns-3)

@@ -51,18 +51,12 @@ loop-again c =
     let end = c .before .before .before .before .before .before .last-place .ensures in
     (next-read _ _ _ _ _ (l .inv .1) (omega (arith, end .2)) (l .inv .0) (c .digit-of .ensures .0) (omega (arith, end .1)) (c .digit-of .ensures .1), omega (arith, l .inv .1), omega arith)
 
-loop-less : tie.Need-loop-less Inv-loop μ-loop
-loop-less c = search needs
-
 -- ---- what its operations ask
 last-place-requires : tie.Need-last-place-requires Inv-loop μ-loop
 last-place-requires c κs = search needs
 
 shared-slice-read-b : tie.Need-shared-slice-read-b Inv-loop μ-loop
 shared-slice-read-b c = omega (arith, c .before .before .before .last-place .ensures .1)
-
-is-digit-requires : tie.Need-is-digit-requires Inv-loop μ-loop
-is-digit-requires c κs = search needs
 
 sub-t13 : tie.Need-sub-t13 Inv-loop μ-loop
 sub-t13 c = c .before .before .before .before .loop .inv .1
@@ -75,15 +69,6 @@ digit-of-requires c κs = digit-there _ _ (c .before .is-digit .ensures) (not-fa
 
 add-value : tie.Need-add-value Inv-loop μ-loop
 add-value c = record { fits = omega (arith, value-small _ _ _ _ _ (c .before .before .before .before .before .loop .inv .0), c .digit-of .ensures .1) }
-
-add-i : tie.Need-add-i Inv-loop μ-loop
-add-i c = search needs
-
-byte-at-requires : tie.Need-byte-at-requires Inv-loop μ-loop
-byte-at-requires c κs = search needs
-
-is-digit-requires-2 : tie.Need-is-digit-requires-2 Inv-loop μ-loop
-is-digit-requires-2 c κs = search needs
 
 sub-t7 : tie.Need-sub-t7 Inv-loop μ-loop
 sub-t7 c = c .before .before .before .before .loop .inv .1
@@ -98,17 +83,17 @@ digits-at-spec =
     last-place-requires
     loop-holds
     shared-slice-read-b
-    is-digit-requires
+    (λ c κs. search needs)
     sub-t13
     returns-2
     mul-value
     digit-of-requires
     add-value
-    add-i
-    loop-less
+    (λ c. search needs)
+    (λ c. search needs)
     loop-again
-    byte-at-requires
-    is-digit-requires-2
+    (λ c κs. search needs)
+    (λ c κs. search needs)
     returns-3
     sub-t7
     returns-4)

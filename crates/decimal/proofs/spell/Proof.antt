@@ -26,9 +26,6 @@ returns c =
     let e : l .i ≡ 1 = omega arith in
     last-one-first _ _ _ ∙ rw e at (l .inv .2)
 
-same-length-2 : tie.Need-same-length-2 Inv-loop μ-loop
-same-length-2 c = search needs
-
 returns-2 : tie.Need-returns-2 Inv-loop μ-loop
 returns-2 c =
     let l = c .before .before .loop in
@@ -49,48 +46,12 @@ loop-again c =
     let t = length-set (l .out) (a .at + (l .i - 2) + 1) (48 + l .rest % 100 % 10) in
     (search needs, u ∙ t ∙ l .inv .1, last-two-first (l .out) (a .at) (l .i - 2) (l .rest) ∙ rw e (l .inv .2))
 
-loop-less : tie.Need-loop-less Inv-loop μ-loop
-loop-less c = search needs
-
 -- ---- what its operations ask
 sub-i : tie.Need-sub-i Inv-loop μ-loop
 sub-i c = search needs
 
-cast-out : tie.Need-cast-out Inv-loop μ-loop
-cast-out c = search needs
-
-add-out : tie.Need-add-out Inv-loop μ-loop
-add-out c = search needs
-
-add-out-2 : tie.Need-add-out-2 Inv-loop μ-loop
-add-out-2 c = search needs
-
-add-out-3 : tie.Need-add-out-3 Inv-loop μ-loop
-add-out-3 c = search needs
-
-slice-write-out : tie.Need-slice-write-out Inv-loop μ-loop
-slice-write-out c = search needs
-
-cast-out-2 : tie.Need-cast-out-2 Inv-loop μ-loop
-cast-out-2 c = search needs
-
-add-out-4 : tie.Need-add-out-4 Inv-loop μ-loop
-add-out-4 c = search needs
-
-add-out-5 : tie.Need-add-out-5 Inv-loop μ-loop
-add-out-5 c = search needs
-
 slice-write-out-2 : tie.Need-slice-write-out-2 Inv-loop μ-loop
 slice-write-out-2 c = simp length-set (omega arith)
-
-cast-out-3 : tie.Need-cast-out-3 Inv-loop μ-loop
-cast-out-3 c = search needs
-
-add-out-6 : tie.Need-add-out-6 Inv-loop μ-loop
-add-out-6 c = search needs
-
-slice-write-out-3 : tie.Need-slice-write-out-3 Inv-loop μ-loop
-slice-write-out-3 c = search needs
 
 pub spell-spec : {M : Type 1} → statement M
 spell-spec =
@@ -100,21 +61,21 @@ spell-spec =
     μ-loop
     loop-holds
     sub-i
-    cast-out
-    add-out
-    add-out-2
-    add-out-3
-    slice-write-out
-    cast-out-2
-    add-out-4
-    add-out-5
+    (λ c. search needs)
+    (λ c. search needs)
+    (λ c. search needs)
+    (λ c. search needs)
+    (λ c. search needs)
+    (λ c. search needs)
+    (λ c. search needs)
+    (λ c. search needs)
     slice-write-out-2
-    loop-less
+    (λ c. search needs)
     loop-again
-    cast-out-3
-    add-out-6
-    slice-write-out-3
+    (λ c. search needs)
+    (λ c. search needs)
+    (λ c. search needs)
     same-length
     returns
-    same-length-2
+    (λ c. search needs)
     returns-2)

@@ -27,24 +27,9 @@ loop-holds c = (omega arith, refl, refl)
 loop-again : tie.Need-loop-again Inv-loop μ-loop
 loop-again c = (search needs, search one-more, search needs)
 
-loop-less : tie.Need-loop-less Inv-loop μ-loop
-loop-less c = search needs
-
-same-length : tie.Need-same-length Inv-loop μ-loop
-same-length c = search needs
-
 -- ---- what its operations ask
 shared-slice-read-shown : tie.Need-shared-slice-read-shown Inv-loop μ-loop
 shared-slice-read-shown c = search needs
-
-shown-requires : tie.Need-shown-requires Inv-loop μ-loop
-shown-requires c κs = search needs
-
-slice-write-memory : tie.Need-slice-write-memory Inv-loop μ-loop
-slice-write-memory c = search needs
-
-add-i : tie.Need-add-i Inv-loop μ-loop
-add-i c = search needs
 
 pub put-shown-spec : {M : Type 1} → statement M
 put-shown-spec =
@@ -54,10 +39,10 @@ put-shown-spec =
     μ-loop
     loop-holds
     shared-slice-read-shown
-    shown-requires
-    slice-write-memory
-    add-i
-    loop-less
+    (λ c κs. search needs)
+    (λ c. search needs)
+    (λ c. search needs)
+    (λ c. search needs)
     loop-again
-    same-length
+    (λ c. search needs)
     returns)

@@ -14,59 +14,11 @@ Inv-loop old new places input₀ out₀ s₀ turns₀ input out s turns = (s .do
 abbrev μ-loop : tie.MeasureT-loop
 μ-loop old new places input₀ out₀ s₀ turns₀ input out s turns = turns
 
-compare-block-requires : tie.Need-compare-block-requires Inv-loop μ-loop
-compare-block-requires c κs = search needs
-
-loop-holds : tie.Need-loop-holds Inv-loop μ-loop
-loop-holds c = search needs
-
-sub-tell : tie.Need-sub-tell Inv-loop μ-loop
-sub-tell c = search needs
-
-part-tell-start : tie.Need-part-tell-start Inv-loop μ-loop
-part-tell-start c = search needs
-
-part-tell-end : tie.Need-part-tell-end Inv-loop μ-loop
-part-tell-end c = search needs
-
-tell-requires : tie.Need-tell-requires Inv-loop μ-loop
-tell-requires c κs = search needs
-
-same-length : tie.Need-same-length Inv-loop μ-loop
-same-length c = search needs
-
-same-length-2 : tie.Need-same-length-2 Inv-loop μ-loop
-same-length-2 c = search needs
-
-returns : tie.Need-returns Inv-loop μ-loop
-returns c = search needs
-
-read-on-requires : tie.Need-read-on-requires Inv-loop μ-loop
-read-on-requires c κs = search needs
-
 turn-requires : tie.Need-turn-requires Inv-loop μ-loop
 turn-requires c κs =
     let l = c .before .before .before .before .before .before .before .before .before .before .before .before .before .loop in
     let first = c .before .before .before .before .before .before .before .before .before .before .before .before .before .before .before .before .before .before .before .before .before .before .before .before .before in
     (first .pre .0, first .pre .1, l .inv .0, search needs, search needs, search needs, search needs)
-
-sub-turns : tie.Need-sub-turns Inv-loop μ-loop
-sub-turns c = search needs
-
-loop-less : tie.Need-loop-less Inv-loop μ-loop
-loop-less c = search needs
-
-loop-again : tie.Need-loop-again Inv-loop μ-loop
-loop-again c = search needs
-
-same-length-3 : tie.Need-same-length-3 Inv-loop μ-loop
-same-length-3 c = search needs
-
-same-length-4 : tie.Need-same-length-4 Inv-loop μ-loop
-same-length-4 c = search needs
-
-returns-2 : tie.Need-returns-2 Inv-loop μ-loop
-returns-2 c = search needs
 
 pub compare-input-spec : {M : Type 1} → statement M
 compare-input-spec =
@@ -74,20 +26,20 @@ compare-input-spec =
     (tie.spec
     Inv-loop
     μ-loop
-    compare-block-requires
-    loop-holds
-    sub-tell
-    part-tell-start
-    part-tell-end
-    tell-requires
-    same-length
-    same-length-2
-    returns
-    read-on-requires
+    (λ c κs. search needs)
+    (λ c. search needs)
+    (λ c. search needs)
+    (λ c. search needs)
+    (λ c. search needs)
+    (λ c κs. search needs)
+    (λ c. search needs)
+    (λ c. search needs)
+    (λ c. search needs)
+    (λ c κs. search needs)
     turn-requires
-    sub-turns
-    loop-less
-    loop-again
-    same-length-3
-    same-length-4
-    returns-2)
+    (λ c. search needs)
+    (λ c. search needs)
+    (λ c. search needs)
+    (λ c. search needs)
+    (λ c. search needs)
+    (λ c. search needs))

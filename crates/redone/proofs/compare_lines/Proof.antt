@@ -19,38 +19,17 @@ Inv-loop old new places buffer out₀ to i₀ at₀ tally₀ end₀ out i at tal
 abbrev μ-loop : tie.MeasureT-loop
 μ-loop old new places buffer out₀ to i₀ at₀ tally₀ end₀ out i at tally end = to - i
 
-line-end-requires : tie.Need-line-end-requires Inv-loop μ-loop
-line-end-requires c κs = search needs
-
 loop-holds : tie.Need-loop-holds Inv-loop μ-loop
 loop-holds c =
     let first = c .before .before .before .before .before .before in
     let a = first .args in
     (start (comparing (now (a .old)) (now (a .new))) changeRoom (now (a .buffer)) _ _ _ (now (a .out)) (first .pre .2), c .line-end .ensures .0, c .line-end .ensures .1, refl)
 
-sub-compare-one : tie.Need-sub-compare-one Inv-loop μ-loop
-sub-compare-one c = search needs
-
-part-compare-one-start : tie.Need-part-compare-one-start Inv-loop μ-loop
-part-compare-one-start c = search needs
-
-part-compare-one-end : tie.Need-part-compare-one-end Inv-loop μ-loop
-part-compare-one-end c = search needs
-
-compare-one-requires : tie.Need-compare-one-requires Inv-loop μ-loop
-compare-one-requires c κs = search needs
-
 add-i : tie.Need-add-i Inv-loop μ-loop
 add-i c =
     let turn = c .before .before .before .before .before .before in
     let first = turn .before .before .before .before .before .before .before .before in
     record { fits = omega (arith, turn .loop-test .taken, first .pre .3) }
-
-line-end-requires-2 : tie.Need-line-end-requires-2 Inv-loop μ-loop
-line-end-requires-2 c κs = search needs
-
-loop-less : tie.Need-loop-less Inv-loop μ-loop
-loop-less c = search needs
 
 loop-again : tie.Need-loop-again Inv-loop μ-loop
 loop-again c =
@@ -60,9 +39,6 @@ loop-again c =
     let first = turn .before .before .before .before .before .before .before .before in
     let more = one-more (l .inv .0) (first .pre .3) _ (l .inv .1) (turn .loop-test .taken) (put .ensures .2) (put .ensures .0) in
     (rw (put .ensures .1) more, c .line-end2 .ensures .0, c .line-end2 .ensures .1, search needs)
-
-same-length : tie.Need-same-length Inv-loop μ-loop
-same-length c = search needs
 
 returns : tie.Need-returns Inv-loop μ-loop
 returns c =
@@ -77,15 +53,15 @@ compare-lines-spec =
     (tie.spec
     Inv-loop
     μ-loop
-    line-end-requires
+    (λ c κs. search needs)
     loop-holds
-    sub-compare-one
-    part-compare-one-start
-    part-compare-one-end
-    compare-one-requires
+    (λ c. search needs)
+    (λ c. search needs)
+    (λ c. search needs)
+    (λ c κs. search needs)
     add-i
-    line-end-requires-2
-    loop-less
+    (λ c κs. search needs)
+    (λ c. search needs)
     loop-again
-    same-length
+    (λ c. search needs)
     returns)

@@ -26,18 +26,9 @@ loop-holds c = (refl, search needs, search needs)
 loop-again : tie.Need-loop-again Inv-loop μ-loop
 loop-again c = (search looked, search no-further, search needs)
 
-loop-less : tie.Need-loop-less Inv-loop μ-loop
-loop-less c = search needs
-
 -- ---- what its operations ask
 shared-slice-read-b : tie.Need-shared-slice-read-b Inv-loop μ-loop
 shared-slice-read-b c = search needs
-
-behind-slash-requires : tie.Need-behind-slash-requires Inv-loop μ-loop
-behind-slash-requires c κs = search needs
-
-add-i : tie.Need-add-i Inv-loop μ-loop
-add-i c = search needs
 
 pub folder-end-spec : {M : Type 1} → statement M
 folder-end-spec =
@@ -47,8 +38,8 @@ folder-end-spec =
     μ-loop
     loop-holds
     shared-slice-read-b
-    behind-slash-requires
-    add-i
-    loop-less
+    (λ c κs. search needs)
+    (λ c. search needs)
+    (λ c. search needs)
     loop-again
     returns)

@@ -25,20 +25,8 @@ returns-2 c = search kind-refused
 returns-3 : tie.Need-returns-3 Inv-loop μ-loop
 returns-3 c = search kinds-end
 
-contents-requires : tie.Need-contents-requires Inv-loop μ-loop
-contents-requires c κs = search needs
-
 loop-holds : tie.Need-loop-holds Inv-loop μ-loop
 loop-holds c = (omega arith, omega arith, search contents-pass, search first-kind)
-
-body-of-requires : tie.Need-body-of-requires Inv-loop μ-loop
-body-of-requires c κs = search needs
-
-add-kind : tie.Need-add-kind Inv-loop μ-loop
-add-kind c = search needs
-
-loop-less : tie.Need-loop-less Inv-loop μ-loop
-loop-less c = search needs
 
 loop-again : tie.Need-loop-again Inv-loop μ-loop
 loop-again c = (omega arith, omega arith, search needs, search kind-passed)
@@ -49,12 +37,12 @@ check-spec =
     (tie.spec
     Inv-loop
     μ-loop
-    contents-requires
+    (λ c κs. search needs)
     returns
     loop-holds
-    body-of-requires
+    (λ c κs. search needs)
     returns-2
-    add-kind
-    loop-less
+    (λ c. search needs)
+    (λ c. search needs)
     loop-again
     returns-3)

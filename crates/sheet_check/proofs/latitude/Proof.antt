@@ -26,35 +26,11 @@ returns-2 c = search (here, last-is)
 returns-3 : tie.Need-returns-3 Inv-loop μ-loop
 returns-3 c = search (end, on, last-is)
 
-row-at-requires : tie.Need-row-at-requires Inv-loop μ-loop
-row-at-requires c κs = search needs
-
 loop-holds : tie.Need-loop-holds Inv-loop μ-loop
 loop-holds c = (c .before .before .pre .1, c .row-at .ensures, rw sub-zero)
 
-add-loop : tie.Need-add-loop Inv-loop μ-loop
-add-loop c = search needs
-
-add-row-at : tie.Need-add-row-at Inv-loop μ-loop
-add-row-at c = search needs
-
-row-at-requires-2 : tie.Need-row-at-requires-2 Inv-loop μ-loop
-row-at-requires-2 c κs = search needs
-
-latitude-row-requires : tie.Need-latitude-row-requires Inv-loop μ-loop
-latitude-row-requires c κs = search needs
-
-add-i : tie.Need-add-i Inv-loop μ-loop
-add-i c = search needs
-
-loop-less : tie.Need-loop-less Inv-loop μ-loop
-loop-less c = search needs
-
 loop-again : tie.Need-loop-again Inv-loop μ-loop
 loop-again c = (omega arith, search needs, search (on, pair-is))
-
-last-latitude-row-requires : tie.Need-last-latitude-row-requires Inv-loop μ-loop
-last-latitude-row-requires c κs = search needs
 
 pub latitude-spec : {M : Type 1} → statement M
 latitude-spec =
@@ -62,16 +38,16 @@ latitude-spec =
     (tie.spec
     Inv-loop
     μ-loop
-    row-at-requires
+    (λ c κs. search needs)
     loop-holds
-    add-loop
-    add-row-at
-    row-at-requires-2
-    latitude-row-requires
+    (λ c. search needs)
+    (λ c. search needs)
+    (λ c κs. search needs)
+    (λ c κs. search needs)
     returns
-    add-i
-    loop-less
+    (λ c. search needs)
+    (λ c. search needs)
     loop-again
-    last-latitude-row-requires
+    (λ c κs. search needs)
     returns-2
     returns-3)

@@ -1,5 +1,7 @@
 -- `survey_samples::show_longitude` meets its contract. Assumes nothing.
 use native.Mathlib.Nat.{le-trans}
+use lib.Dec.{lit≤}
+use Rattle.sheet_check.proofs.Known.{longitude-placed}
 use Rattle.extent.proofs.Reach.{longitude-span}
 use borrow.Author.Needs.{needs}
 use Rattle.survey_samples.proofs.show_longitude.Statement.{statement}
@@ -12,7 +14,7 @@ pub show-longitude-spec : {M : Type 1} → statement M
 show-longitude-spec =
     tie.close
     (tie.spec
-    (λ c κs. search needs)
+    (λ c κs. (longitude-placed _ _ (c .before .pre .0), lit≤ tt, c .before .pre .1))
     (λ c. search needs)
     q-of-requires
     (λ c κs. search needs)

@@ -1,8 +1,10 @@
 -- `survey_samples::show_point` meets its contract. Assumes nothing.
 use mathlib.Core.Path.{_≡_, ap, _∙_}
+use lib.Dec.{lit≤}
 use denote.Ref.{now}
 use mir.Syntax.{w32, w64}
 use mir.Val.{toZ, ofZ}
+use Rattle.sheet_check.proofs.Known.{latitude-placed}
 use Rattle.tables.proofs.Answers.{size-is, size-fits}
 use Rattle.extent.specs.Extent.{fromFirst, lOf}
 use Rattle.extent.proofs.Reach.{latitude-reach, latitude-small, latitude-within, longitude-within}
@@ -33,19 +35,19 @@ cast-t c =
 l-of-requires : tie.Need-l-of-requires
 l-of-requires c κs = (c .before .before .before .pre .0 .passes, c .before .origin-of .ensures)
 
-show-latitude-requires : tie.Need-show-latitude-requires
-show-latitude-requires c κs =
+position-requires : tie.Need-position-requires
+position-requires c κs =
     let p = c .before .before .before .before .pre in
     let t = size-is (c .before .from-first .ok) (distance-is (c .before)) (latitude-reach _ _ (p .1)) in
-    (p .0, rw t (latitude-within _ (p .0 .passes) _ (p .1)))
+    (latitude-placed _ _ (p .0), lit≤ tt, rw t (latitude-within _ (p .0 .passes) _ (p .1)))
 
 size-requires : tie.Need-size-requires
-size-requires c κs = let l = c .before .before .before .l-of in bits-below (l .result) (l .ok) (l .ensures .1) tt
+size-requires c κs = let l = c .before .before .before .before .l-of in bits-below (l .result) (l .ok) (l .ensures .1) tt
 
 show-longitude-requires : tie.Need-show-longitude-requires
 show-longitude-requires c κs =
-    let p = c .before .before .before .before .before .before .before .before .pre in
-    (p .0, rw (c .size .ensures, l-is (c .before .before .before .before)) (longitude-within _ _ (p .2)))
+    let p = c .before .before .before .before .before .before .before .before .before .pre in
+    (p .0, rw (c .size .ensures, l-is (c .before .before .before .before .before)) (longitude-within _ _ (p .2)))
 
 pub show-point-spec : {M : Type 1} → statement M
 show-point-spec =
@@ -55,7 +57,8 @@ show-point-spec =
     from-first-requires
     cast-t
     l-of-requires
-    show-latitude-requires
+    position-requires
+    (λ c κs. search needs)
     (λ c. search needs)
     (λ c κs. search needs)
     size-requires

