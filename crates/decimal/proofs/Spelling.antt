@@ -14,7 +14,7 @@ use lib.Seq.{sets, set-comm}
 use Rattle.refusals.proofs.Ladders.{below, beyond}
 use Rattle.decimal.specs.Counting.{Counting}
 use Rattle.decimal.proofs.DigitsRead.{powers}
-use Rattle.decimal.specs.Writing.{digitCountFrom, digitCount, spelled, sizeText, numberText, Wrote}
+use Rattle.decimal.specs.Writing.{digitsNeededFrom, digitsNeeded, spelled, sizeText, numberText, Wrote}
 
 -- ---- a run of stores after another is the run of both
 pub sets-after : {A : Type 0} (l : List A) (i j : ℕ) (a b : List A) → j ≡ i + length a → sets (sets l i a) j b ≡ sets l i (a ++ b)
@@ -67,23 +67,23 @@ last-one-first l at v = let a : at + 0 ≡ at = omega arith in rw (a, none-left)
 
 -- ---- how many digits there are
 module _ (left limit k v : ℕ) where
-  pub enough : v < limit → k ≡ digitCountFrom (left + 1) limit k v
-  unfolding digitCountFrom
-  enough h = rw (add-one left) (below v limit k (digitCountFrom left (10 * limit) (k + 1) v) k h refl)
+  pub enough : v < limit → k ≡ digitsNeededFrom (left + 1) limit k v
+  unfolding digitsNeededFrom
+  enough h = rw (add-one left) (below v limit k (digitsNeededFrom left (10 * limit) (k + 1) v) k h refl)
 
-  pub one-more-place : limit ≤ v → digitCountFrom left (10 * limit) (k + 1) v ≡ digitCountFrom (left + 1) limit k v
-  unfolding digitCountFrom
-  one-more-place h = rw (add-one left) (beyond v limit k (digitCountFrom left (10 * limit) (k + 1) v) (digitCountFrom left (10 * limit) (k + 1) v) h refl)
+  pub one-more-place : limit ≤ v → digitsNeededFrom left (10 * limit) (k + 1) v ≡ digitsNeededFrom (left + 1) limit k v
+  unfolding digitsNeededFrom
+  one-more-place h = rw (add-one left) (beyond v limit k (digitsNeededFrom left (10 * limit) (k + 1) v) (digitsNeededFrom left (10 * limit) (k + 1) v) h refl)
 
 pub one-place : (v : ℕ) → Counting v 1 10
-unfolding digitCount
+unfolding digitsNeeded
 one-place v = record { same = refl; power = refl; most = omega arith }
 
 module _ (v k limit : ℕ) (p : Counting v k limit) where
   pub limit-small : k < 19 → 10 * limit < 2 ^ 64
   limit-small h = omega (arith, p .power, powers k (18 - k) 18 (omega arith))
 
-  pub placed : v < limit → k ≡ digitCount v
+  pub placed : v < limit → k ≡ digitsNeeded v
   placed h = let e : 19 - k + 1 ≡ 20 - k = omega (arith, p .most) in rw e at (enough (19 - k) limit k v h) ∙ p .same
 
   pub next-place : k < 19 → limit ≤ v → Counting v (k + 1) (10 * limit)
@@ -96,8 +96,8 @@ module _ (v k limit : ℕ) (p : Counting v k limit) where
         most = omega (arith, l);
       }
 
-  pub last-place : 19 ≤ k → limit ≤ v → 20 ≡ digitCount v
-  unfolding digitCountFrom
+  pub last-place : 19 ≤ k → limit ≤ v → 20 ≡ digitsNeeded v
+  unfolding digitsNeededFrom
   last-place l h =
       let e : k ≡ 19 = omega (arith, p .most, l) in
       one-more-place 0 limit 19 v h ∙ rw e at (p .same)
@@ -110,11 +110,11 @@ six-places v h =
     let five = next-place v 4 10_000 four (omega arith) (omega (arith, h)) in
     next-place v 5 100_000 five (omega arith) h
 
-pub length-size : (v k : ℕ) → k ≡ digitCount v → length (sizeText v) ≡ k
+pub length-size : (v k : ℕ) → k ≡ digitsNeeded v → length (sizeText v) ≡ k
 unfolding sizeText
-length-size v k e = length-spelled (digitCount v) v ∙ sym e
+length-size v k e = length-spelled (digitsNeeded v) v ∙ sym e
 
-pub written-size : (old new : List ℕ) (at v k : ℕ) → k ≡ digitCount v → new ≡ sets old at (spelled k v) → new ≡ sets old at (sizeText v)
+pub written-size : (old new : List ℕ) (at v k : ℕ) → k ≡ digitsNeeded v → new ≡ sets old at (spelled k v) → new ≡ sets old at (sizeText v)
 unfolding sizeText
 written-size old new at v k e h = rw (← e) h
 

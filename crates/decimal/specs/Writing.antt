@@ -8,13 +8,13 @@ use lib.Seq.{sets}
 use Rattle.refusals.specs.Ladder.{whereBelow}
 
 -- How many digits v has, where it has k or more and `limit` is the least number with more than k; `left` bounds the search.
-unfoldable pub digitCountFrom : ℕ → ℕ → ℕ → ℕ → ℕ
-digitCountFrom zero limit k v = k
-digitCountFrom (suc left) limit k v = whereBelow v limit k (digitCountFrom left (10 * limit) (k + 1) v)
+unfoldable pub digitsNeededFrom : ℕ → ℕ → ℕ → ℕ → ℕ
+digitsNeededFrom zero limit k v = k
+digitsNeededFrom (suc left) limit k v = whereBelow v limit k (digitsNeededFrom left (10 * limit) (k + 1) v)
 
 -- How many digits v has, to the twenty of a 64-bit number.
-unfoldable pub digitCount : ℕ → ℕ
-digitCount v = digitCountFrom 19 10 1 v
+unfoldable pub digitsNeeded : ℕ → ℕ
+digitsNeeded v = digitsNeededFrom 19 10 1 v
 
 -- The last k digits of v.
 unfoldable pub spelled : ℕ → ℕ → List ℕ
@@ -23,7 +23,7 @@ spelled (suc k) v = spelled k (v / 10) ++ (48 + v % 10) ∷ []
 
 -- A size in decimal.
 unfoldable pub sizeText : ℕ → List ℕ
-sizeText v = spelled (digitCount v) v
+sizeText v = spelled (digitsNeeded v) v
 
 -- A signed number in decimal.
 unfoldable pub numberText : ℤ → List ℕ

@@ -6,7 +6,7 @@ ghost use lib.Dec.{leb};
 ghost use lib.ListN.{length, drop, getD};
 ghost use lib.Seq.{sets};
 ghost use Rattle.decimal.specs.Reading.{digitOf, minusOf, digitsOf, signed, numberOf};
-ghost use Rattle.decimal.specs.Writing.{digitCount, spelled, sizeText, numberText, Wrote};
+ghost use Rattle.decimal.specs.Writing.{digitsNeeded, spelled, sizeText, numberText, Wrote};
 ghost use Rattle.decimal.specs.Counting.{Counting};
 
 // Digits that were read: how many, and their value. None have count 0.
@@ -141,9 +141,9 @@ pub fn number_at(s: &[u8], at: usize) -> Number
 // ---- writing
 
 // How many digits v has, which has k or more.
-fn digit_count_from(v: u64, least: usize, power: u64) -> usize
+fn digits_needed_from(v: u64, least: usize, power: u64) -> usize
     requires { ⌜ Counting v least power ⌝ }
-    ensures { λ r. ⌜ (r ≡ digitCount v) × (r ≤ 20) ⌝ }
+    ensures { λ r. ⌜ (r ≡ digitsNeeded v) × (r ≤ 20) ⌝ }
 {
     let mut k = least;
     let mut limit = power;
@@ -161,13 +161,13 @@ fn digit_count_from(v: u64, least: usize, power: u64) -> usize
 }
 
 // How many digits v has. Most numbers of a point have more than five.
-fn digit_count(v: u64) -> usize
-    ensures { λ r. ⌜ (r ≡ digitCount v) × (r ≤ 20) ⌝ }
+fn digits_needed(v: u64) -> usize
+    ensures { λ r. ⌜ (r ≡ digitsNeeded v) × (r ≤ 20) ⌝ }
 {
     if v < 100_000 {
-        return digit_count_from(v, 1, 10);
+        return digits_needed_from(v, 1, 10);
     }
-    digit_count_from(v, 6, 1_000_000)
+    digits_needed_from(v, 6, 1_000_000)
 }
 
 // The last k digits of v, written from `at` on, two at a time from the last back.
@@ -202,7 +202,7 @@ pub fn put_size(out: &mut [u8], at: usize, v: u64) -> usize
     requires { ⌜ at + 20 ≤ length (now out) ⌝ }
     ensures { λ r. ⌜ (r ≤ at + 20) × Wrote (now (out .entry)) (now (out .exit)) at r (sizeText v) ⌝ }
 {
-    let k = digit_count(v);
+    let k = digits_needed(v);
     spell(out, at, v, k);
     at + k
 }

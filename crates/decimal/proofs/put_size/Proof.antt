@@ -8,7 +8,7 @@ use Rattle.decimal.proofs.put_size.Tie as tie
 returns : tie.Need-returns
 returns c =
     let start = c .before .before .before .before .before .before in
-    let k = c .before .before .before .before .digit-count .ensures in
+    let k = c .before .before .before .before .digits-needed .ensures in
     let n = length-size (start .args .v) _ (k .0) in
     (omega (arith, k .1), record { place = omega (arith, n); bytes = written-size _ _ _ _ _ (k .0) (c .before .before .spell .ensures) })
 

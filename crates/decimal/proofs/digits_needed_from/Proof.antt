@@ -1,4 +1,4 @@
--- `decimal::digit_count_from` meets its contract. Assumes nothing.
+-- `decimal::digits_needed_from` meets its contract. Assumes nothing.
 use borrow.Author.Needs.{needs}
 use mathlib.Core.Path.{_≡_, _∙_}
 use Prim.Native.Nat.{_-_}
@@ -6,8 +6,8 @@ use native.Mathlib.Omega.{arith}
 use lib.Dec.{lit≤}
 use Rattle.decimal.specs.Counting.{Counting}
 use Rattle.decimal.proofs.Spelling.{limit-small, placed, next-place, last-place}
-use Rattle.decimal.proofs.digit_count_from.Statement.{statement}
-use Rattle.decimal.proofs.digit_count_from.Tie as tie
+use Rattle.decimal.proofs.digits_needed_from.Statement.{statement}
+use Rattle.decimal.proofs.digits_needed_from.Tie as tie
 
 abbrev Inv-loop : tie.InvT-loop
 Inv-loop v least power k₀ limit₀ k limit = Counting v k limit
@@ -39,8 +39,8 @@ loop-again c = next-place _ _ _ (c .before .before .loop .inv) (omega arith) (c 
 mul-limit : tie.Need-mul-limit Inv-loop μ-loop
 mul-limit c = record { fits = limit-small _ _ _ (c .before .before .loop .inv) (omega arith) }
 
-pub digit-count-from-spec : {M : Type 1} → statement M
-digit-count-from-spec =
+pub digits-needed-from-spec : {M : Type 1} → statement M
+digits-needed-from-spec =
     tie.close
     (tie.spec
     Inv-loop
