@@ -1,0 +1,3 @@
+-- Laws of what is written. Other crates cite them.
+pub mod WordByWord
+pub mod RowWords
