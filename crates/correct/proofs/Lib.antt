@@ -1,5 +1,4 @@
 -- Laws of a correction. Other crates cite them.
-pub mod RowWords
 pub mod Steps
 pub mod Rewritten
 pub mod Judged

@@ -16,10 +16,11 @@ use Rattle.rules.specs.declared.Figures.{Figures}
 use Rattle.rules.specs.declared.Differences.{Differences}
 use Rattle.rules.specs.Latitude.{figuresInRange, withinBounds, differencesOf}
 use Rattle.latitude_rows.specs.Rows.{figuresAt, differencesAt}
+use Rattle.writing.specs.Rows.{putFigures, putDifferences, putRow}
+use Rattle.writing.proofs.RowWords.{FiguresFit, figures-fit, DifferencesFit, length-putFigures, minute-by-figures, differences-by-figures, figures-elsewhere, figures-put, length-putDifferences, minute-by-differences, figures-by-differences, differences-elsewhere, differences-put}
 use Rattle.judge.specs.Judge.{boundBefore, boundAfter}
-use Rattle.correct.specs.Correction.{putFigures, putDifferences, workedAt, reworked, rewritten}
+use Rattle.correct.specs.Correction.{workedAt, reworked, rewritten}
 use Rattle.correct.proofs.Steps.{worked-with, rework-is}
-use Rattle.correct.proofs.RowWords.{FiguresFit, figures-fit, DifferencesFit, length-putFigures, minute-by-figures, differences-by-figures, figures-elsewhere, figures-put, length-putDifferences, minute-by-differences, figures-by-differences, differences-elsewhere, differences-put}
 use Rattle.judge.proofs.Bounds.{bound-before, bound-after}
 
 -- ---- a row's differences worked again
@@ -117,7 +118,7 @@ module _ (b : List ℕ) (n r : ℕ) (f : Figures) where
         by-place (λ t. differencesAt t j ≡ workedAt (rewritten b n r f) n j) (λ z. absurd (omega arith))
         (λ z. rw at (own-reworked own n j (omega (arith, length-own)) (rw same d) ∙ same))
 
--- ---- in the shape of the code: the differences are worked from the figures in hand. t has the new figures, u row r's differences too, and v those of the row before.
+-- ---- in the shape of the code: the differences are worked from the figures in hand. u has the new figures and row r's differences, and v those of the row before too.
 module _ (b : List ℕ) (n r : ℕ) (f : Figures) (long : rowBytes latitude * n ≤ length b) (there : r < n) (range : figuresInRange f ≡ true) where
   here : figuresAt (putFigures b r f) r ≡ f
   here = figures-put b r f (omega arith) (figures-fit f range)
@@ -130,9 +131,9 @@ module _ (b : List ℕ) (n r : ℕ) (f : Figures) (long : rowBytes latitude * n 
     pub after-worked : (d : Differences) → d ≡ differencesOf f g → d ≡ workedAt (putFigures b r f) n r
     after-worked d w = worked-with (putFigures b r f) n r d f g l (sym here) (e ∙ sym (figures-elsewhere b r f (r + 1) (omega arith))) w
 
-  module _ (t u : List ℕ) (d : Differences) (w : d ≡ workedAt (putFigures b r f) n r) (p : t ≡ putFigures b r f) (q : u ≡ putDifferences t r d) where
+  module _ (u : List ℕ) (d : Differences) (w : d ≡ workedAt (putFigures b r f) n r) (q : u ≡ putRow b r f d) where
     own-is : u ≡ reworked (putFigures b r f) n r
-    own-is = rework-is (putFigures b r f) n r d u w (rw p at q)
+    own-is = rework-is (putFigures b r f) n r d u w q
 
     pub first-row : r ≤ 0 → u ≡ rewritten b n r f
     unfolding rewritten

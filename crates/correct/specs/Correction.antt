@@ -4,7 +4,6 @@
 use mathlib.Core.List.{List}
 use Prim.Native.Nat.{ℕ, _+_, _-_, _*_}
 use lib.IntN.{ℤ}
-use Rattle.words.specs.Words.{putWord}
 use Rattle.words.specs.Parts.{putPart}
 use Rattle.refusals.specs.Ladder.{whereBelow, whereIs, orElse}
 use Rattle.entries.specs.Layout.{latitude, widthOf}
@@ -15,6 +14,7 @@ use Rattle.rules.specs.declared.Differences.{Differences}
 use Rattle.rules.specs.Latitude.{differencesOf, noDifferences}
 use Rattle.latitude_rows.specs.Rows.{figuresAt}
 use Rattle.minute_row.specs.MinuteRow.{namedRow}
+use Rattle.writing.specs.Rows.{putFigures, putDifferences}
 use Rattle.judge.specs.Judge.{judgedBy}
 
 -- The new figures as one: y0 (0.01 ft), H (0.000001), V (0.000001), a (0.001).
@@ -26,12 +26,6 @@ unfoldable pub correctionOf : List ℕ → ℤ → Figures → ℕ
 correctionOf s minute f = orElse (λ n. n) (contentsOf s .number) (judgedBy (bodyOf s latitude) (rowsOf s latitude) minute f)
 
 -- ---- "Accepted, it writes the four figures and the reworked differences of that row and the row before"
-unfoldable pub putFigures : List ℕ → ℕ → Figures → List ℕ
-putFigures b i f = putWord (putWord (putWord (putWord b (widthOf latitude * i + 1) (f .y0)) (widthOf latitude * i + 3) (f .h)) (widthOf latitude * i + 5) (f .v)) (widthOf latitude * i + 7) (f .a)
-
-unfoldable pub putDifferences : List ℕ → ℕ → Differences → List ℕ
-putDifferences b i d = putWord (putWord (putWord b (widthOf latitude * i + 2) (d .y)) (widthOf latitude * i + 4) (d .h)) (widthOf latitude * i + 6) (d .v)
-
 -- Row i's differences as its figures and the next row's give them; in the last row all three are 0.
 unfoldable pub workedAt : List ℕ → ℕ → ℕ → Differences
 workedAt b n i = whereBelow (i + 1) n (differencesOf (figuresAt b i) (figuresAt b (i + 1))) noDifferences

@@ -7,29 +7,9 @@ ghost use Prim.Native.Nat.{_+_, _*_, _<_, _≤_};
 ghost use lib.ListN.{length};
 ghost use Rattle.entries.specs.Layout.{latitude, rowBytes};
 ghost use Rattle.rules.specs.Latitude.{figuresInRange};
+ghost use Rattle.writing.specs.Rows.{putFigures};
 ghost use Rattle.judge.specs.Judge.{boundBefore, boundAfter, judgedBy};
-ghost use Rattle.correct.specs.Correction.{correctionOf, putFigures, putDifferences, workedAt, rewritten, correctedBody, figures, correctedOf};
-
-// The figures become row i's.
-fn put_figures(b: &mut [u8], i: usize, f: Figures)
-    requires { ⌜ rowBytes latitude * i + rowBytes latitude ≤ length (now b) ⌝ }
-    ensures { λ _. ⌜ now (b .exit) ≡ putFigures (now (b .entry)) i f ⌝ }
-{
-    words::put_word(b, entries::LATITUDE_WIDTH * i + 1, f.y0);
-    words::put_word(b, entries::LATITUDE_WIDTH * i + 3, f.h);
-    words::put_word(b, entries::LATITUDE_WIDTH * i + 5, f.v);
-    words::put_word(b, entries::LATITUDE_WIDTH * i + 7, f.a);
-}
-
-// The differences become row i's.
-fn put_differences(b: &mut [u8], i: usize, d: Differences)
-    requires { ⌜ rowBytes latitude * i + rowBytes latitude ≤ length (now b) ⌝ }
-    ensures { λ _. ⌜ now (b .exit) ≡ putDifferences (now (b .entry)) i d ⌝ }
-{
-    words::put_word(b, entries::LATITUDE_WIDTH * i + 2, d.y);
-    words::put_word(b, entries::LATITUDE_WIDTH * i + 4, d.h);
-    words::put_word(b, entries::LATITUDE_WIDTH * i + 6, d.v);
-}
+ghost use Rattle.correct.specs.Correction.{correctionOf, workedAt, rewritten, correctedBody, figures, correctedOf};
 
 // The differences that row r of n has with figures f: those to the next row, and none in the last.
 fn differences_after(b: &[u8], n: usize, r: usize, f: Figures) -> Differences
@@ -48,11 +28,10 @@ fn rewrite(b: &mut [u8], n: usize, r: usize, f: Figures)
     ensures { λ _. ⌜ now (b .exit) ≡ rewritten (now (b .entry)) n r f ⌝ }
 {
     let own = differences_after(b, n, r, f);
-    put_figures(b, r, f);
-    put_differences(b, r, own);
+    writing::put_row(b, r, f, own);
     if 0 < r {
         let before = rules::differences_of(latitude_rows::figures_at(b, r - 1), f);
-        put_differences(b, r - 1, before);
+        writing::put_differences(b, r - 1, before);
     }
 }
 

@@ -20,7 +20,7 @@ use Rattle.latitude_rows.specs.Rows.{figuresAt, differencesAt, rowAt, rowInRang
 use Rattle.latitude_rows.proofs.PassingRows.{LatitudeRow}
 use Rattle.judge.specs.Judge.{boundBefore, boundAfter}
 use Rattle.correct.specs.Correction.{workedAt, rewritten}
-use Rattle.correct.proofs.RowWords.{FiguresFit, DifferencesFit, figures-fit, differences-fit, none-fit}
+use Rattle.writing.proofs.RowWords.{FiguresFit, DifferencesFit, figures-fit, differences-fit, none-fit}
 use Rattle.judge.proofs.Bounds.{before-is, none-before, after-is, none-after, bound-before, bound-after}
 use Rattle.correct.proofs.Rewritten.{minutes-stay, figures-stay, figures-new, differences-stay, differences-new, differences-before}
 

@@ -32,8 +32,9 @@ use Rattle.latitude_rows.proofs.PassingRows.{LatitudeRow}
 use Rattle.latitude_rows.proofs.PassingFigures.{differences-stated, last-differences}
 use Rattle.sheet_check.specs.Check.{checkOf}
 use Rattle.sheet_check.proofs.Sound.{passes-sound, latitude-rows}
-use Rattle.correct.specs.Correction.{putFigures, putDifferences, workedAt, reworked, rewritten, withRow}
-use Rattle.correct.proofs.RowWords.{figures-fit, length-putFigures, figures-elsewhere, figures-put, length-putDifferences, figures-by-differences}
+use Rattle.writing.specs.Rows.{putFigures, putDifferences}
+use Rattle.correct.specs.Correction.{workedAt, reworked, rewritten, withRow}
+use Rattle.writing.proofs.RowWords.{figures-fit, length-putFigures, figures-elsewhere, figures-put, length-putDifferences, figures-by-differences}
 use Rattle.correct.proofs.Rewritten.{length-rewritten}
 use Rattle.corrected.proofs.SameContents.{start-same, rows-same}
 use Rattle.corrected.proofs.WithRow.{within, whole}

@@ -17,7 +17,8 @@ use Rattle.entries.specs.Entries.{startOf, rowsOf, bodyOf}
 use Rattle.contents.specs.Contents.{contentsOf}
 use Rattle.rules.specs.declared.Figures.{Figures}
 use Rattle.rules.specs.declared.Differences.{Differences}
-use Rattle.correct.specs.Correction.{putFigures, putDifferences, workedAt, reworked, rewritten, withRow}
+use Rattle.writing.specs.Rows.{putFigures, putDifferences}
+use Rattle.correct.specs.Correction.{workedAt, reworked, rewritten, withRow}
 use Rattle.corrected.proofs.WithRow.{within, whole}
 
 -- words in a latitude row

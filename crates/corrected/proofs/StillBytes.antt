@@ -28,8 +28,9 @@ use Rattle.sheet_check.specs.Check.{checkOf}
 use Rattle.sheet_check.proofs.Sound.{passes-sound, latitude-rows}
 use Rattle.sheet_check.proofs.Known.{contents-none}
 use Rattle.judge.specs.Judge.{boundBefore, boundAfter}
-use Rattle.correct.specs.Correction.{putFigures, putDifferences, workedAt, reworked, rewritten, withRow}
-use Rattle.correct.proofs.RowWords.{FiguresFit, DifferencesFit, figures-fit, differences-fit, none-fit, figures-elsewhere, figures-put, figures-by-differences}
+use Rattle.writing.specs.Rows.{putFigures, putDifferences}
+use Rattle.correct.specs.Correction.{workedAt, reworked, rewritten, withRow}
+use Rattle.writing.proofs.RowWords.{FiguresFit, DifferencesFit, figures-fit, differences-fit, none-fit, figures-elsewhere, figures-put, figures-by-differences}
 use Rattle.correct.proofs.Rewritten.{figures-stay, figures-new}
 use Rattle.corrected.proofs.NewRows.{new-rows}
 use Rattle.corrected.proofs.WithRow.{within, whole, body-long}

@@ -21,7 +21,7 @@ use Rattle.sheet_check.proofs.Sound.{passes-sound, sound-passes, latitude-rows}
 use Rattle.sheet_check.proofs.Known.{contents-none}
 use Rattle.judge.specs.Judge.{boundBefore, boundAfter}
 use Rattle.correct.specs.Correction.{rewritten, withRow}
-use Rattle.correct.proofs.RowWords.{FiguresFit}
+use Rattle.writing.proofs.RowWords.{FiguresFit}
 use Rattle.corrected.proofs.WithRow.{body-long, contents-stay, rows-stay, body-stays, latitude-body}
 use Rattle.corrected.proofs.NewRows.{new-rows, range-kept, before-kept, after-kept}
 

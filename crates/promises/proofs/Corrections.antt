@@ -38,7 +38,7 @@ use Rattle.minute_row.specs.MinuteRow.{fromFirstMinute, hasRow}
 use Rattle.judge.specs.Judge.{judgedBy}
 use Rattle.correct.specs.Correction.{correctionOf, correctedOf}
 use Rattle.minute_row.proofs.Place.{row-there}
-use Rattle.correct.proofs.RowWords.{FiguresFit, figures-fit}
+use Rattle.writing.proofs.RowWords.{FiguresFit, figures-fit}
 use Rattle.correct.proofs.Rewritten.{minutes-stay, figures-stay, figures-new}
 use Rattle.judge.proofs.Kept.{Kept, zero-keeps, kept-zero}
 use Rattle.correct.proofs.Judged.{number-is}

@@ -18,7 +18,7 @@ use Rattle.latitude_rows.specs.Rows.{figuresAt, rowAt}
 use Rattle.sheet_check.specs.Check.{checkOf}
 use Rattle.sheet_check.proofs.Known.{contents-none}
 use Rattle.correct.specs.Correction.{rewritten, correctionOf, correctedOf, withRow}
-use Rattle.correct.proofs.RowWords.{FiguresFit, figures-fit}
+use Rattle.writing.proofs.RowWords.{FiguresFit, figures-fit}
 use Rattle.correct.proofs.Rewritten.{figures-new}
 use Rattle.correct.proofs.Judged.{number-is}
 use Rattle.judge.proofs.Kept.{Kept, zero-keeps, kept-zero}

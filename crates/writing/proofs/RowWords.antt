@@ -21,7 +21,7 @@ use Rattle.rules.specs.declared.Differences.{Differences}
 use Rattle.rules.specs.Latitude.{figuresInRange, withinBounds, differencesOf, noDifferences}
 use Rattle.rules.proofs.WhatPasses.{figures-in, changes}
 use Rattle.latitude_rows.specs.Rows.{figuresAt, differencesAt}
-use Rattle.correct.specs.Correction.{putFigures, putDifferences}
+use Rattle.writing.specs.Rows.{putFigures, putDifferences}
 
 -- words in a latitude row
 abbrev width : ℕ

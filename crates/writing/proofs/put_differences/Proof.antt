@@ -1,8 +1,8 @@
--- `correct::put_differences` meets its contract. Assumes nothing.
-use Rattle.correct.proofs.Steps.{three-put}
+-- `writing::put_differences` meets its contract. Assumes nothing.
+use Rattle.writing.proofs.WordByWord.{three-put}
 use borrow.Author.Needs.{needs}
-use Rattle.correct.proofs.put_differences.Statement.{statement}
-use Rattle.correct.proofs.put_differences.Tie as tie
+use Rattle.writing.proofs.put_differences.Statement.{statement}
+use Rattle.writing.proofs.put_differences.Tie as tie
 
 returns : tie.Need-returns
 returns c = search (three-put, needs)

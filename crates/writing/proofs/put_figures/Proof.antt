@@ -1,12 +1,12 @@
--- `correct::put_figures` meets its contract. Assumes nothing.
+-- `writing::put_figures` meets its contract. Assumes nothing.
 use mathlib.Core.Path.{_≡_}
 use denote.Ref.{now}
 use mir.Syntax.{w32}
 use mir.Val.{toZ, ofZ}
-use Rattle.correct.proofs.Steps.{four-put}
+use Rattle.writing.proofs.WordByWord.{four-put}
 use borrow.Author.Needs.{needs}
-use Rattle.correct.proofs.put_figures.Statement.{statement}
-use Rattle.correct.proofs.put_figures.Tie as tie
+use Rattle.writing.proofs.put_figures.Statement.{statement}
+use Rattle.writing.proofs.put_figures.Tie as tie
 
 -- f's last figure, as its word is put
 a-read : (c : tie.After-put-word4) → toZ w32 (ofZ w32 (c .before .before .before .before .before .before .before .before .before .before .before .before .before .before .before .before .before .before .before .args .f .a)) ≡ c .before .before .before .before .before .before .before .before .before .before .before .before .before .before .before .before .before .before .before .args .f .a
