@@ -11,7 +11,7 @@ use mir.Val.{Fits}
 use Rattle.entries.specs.declared.Form.{Form}
 use Rattle.entries.specs.Layout.{HasContents, mostKinds, mostFirst, mostBytes, mostWidth, widthOf}
 use Rattle.entries.proofs.Spans.{width-small}
-use Rattle.writing.specs.Contents.{mostCount, putEntry, dueIn, putEntries, Writable}
+use Rattle.writing.specs.Contents.{mostWritten, putEntry, dueIn, putEntries, Writable}
 
 -- a sheet as long has contents as long
 pub as-long : (f : Form) (s t : List ℕ) → HasContents f s → length t ≡ length s → HasContents f t
@@ -23,10 +23,10 @@ module _ (f : Form) (kinds rows : List ℕ) (e : ℕ) where
     pub kind-known : getD kinds e 0 ≤ mostKinds
     kind-known = can .known e h
 
-    pub kind-small : getD kinds e 0 ≤ mostCount
+    pub kind-small : getD kinds e 0 ≤ mostWritten
     kind-small = omega (arith, kind-known)
 
-    pub rows-small : getD rows e 0 ≤ mostCount
+    pub rows-small : getD rows e 0 ≤ mostWritten
     rows-small = omega (arith, can .few e h)
 
     -- and so is a body's length, of whatever kind
@@ -38,7 +38,7 @@ module _ (f : Form) (kinds rows : List ℕ) (e : ℕ) where
       span-fits = record { fits = omega (arith, span-most) }
 
     module _ (s : List ℕ) (has : HasContents f s) (due : ℕ) (near : due ≤ mostFirst + e * (mostBytes * mostWidth)) where
-      pub due-small : due ≤ mostCount
+      pub due-small : due ≤ mostWritten
       due-small = omega (arith, has .small .few)
 
       module _ (kind width : ℕ) (w : width ≡ widthOf kind) where

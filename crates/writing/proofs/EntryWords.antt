@@ -13,7 +13,7 @@ use Rattle.entries.specs.declared.Form.{Form}
 use Rattle.entries.specs.Layout.{HasContents, firstEntry, entryWords}
 use Rattle.entries.specs.Entries.{kindAt, startAt, rowsAt}
 use Rattle.entries.proofs.Forms.{word-within}
-use Rattle.writing.specs.Contents.{mostCount, putCount, putEntry}
+use Rattle.writing.specs.Contents.{mostWritten, putCount, putEntry}
 
 -- ---- where they lie
 module _ (f : Form) (s : List ℕ) (e : ℕ) (has : HasContents f s) (h : e < f .kinds) where
@@ -31,7 +31,7 @@ module _ (f : Form) (s : List ℕ) (e : ℕ) (has : HasContents f s) (h : e < f 
 
 -- ---- one word put
 module _ (s : List ℕ) (i n : ℕ) where
-  pub count-put : 4 * i + 4 ≤ length s → n ≤ mostCount → unsignedAt (putCount s i n) i ≡ n
+  pub count-put : 4 * i + 4 ≤ length s → n ≤ mostWritten → unsignedAt (putCount s i n) i ≡ n
   unfolding putWord bits32
   count-put h k = unsignedAt-put s i n h (omega arith)
 
@@ -72,21 +72,21 @@ module _ (f : Form) (s : List ℕ) (e kind start rows : ℕ) where
       rw (putWord-keeps, putWord-keeps, putWord-keeps)
 
   module _ (has : HasContents f s) (h : e < f .kinds) where
-    pub kind-put : kind ≤ mostCount → kindAt f after e ≡ kind
+    pub kind-put : kind ≤ mostWritten → kindAt f after e ≡ kind
     unfolding putEntry
     kind-put k =
         let n₁ : at ≢ at + 1 = omega arith in
         let n₂ : at ≢ at + 2 = omega arith in
         rw (add-zero at, count-keeps, count-keeps, count-put s at kind (kind-inside f s e has h) k)
 
-    pub start-put : start ≤ mostCount → startAt f after e ≡ start
+    pub start-put : start ≤ mostWritten → startAt f after e ≡ start
     unfolding putEntry
     start-put k =
         let n₂ : at + 1 ≢ at + 2 = omega arith in
         let l : 4 * (at + 1) + 4 ≤ length (putCount s at kind) = rw length-putWord (start-inside f s e has h) in
         rw (count-keeps, count-put _ _ _ l k)
 
-    pub rows-put : rows ≤ mostCount → rowsAt f after e ≡ rows
+    pub rows-put : rows ≤ mostWritten → rowsAt f after e ≡ rows
     unfolding putEntry
     rows-put k =
         let l : 4 * (at + 2) + 4 ≤ length (putCount (putCount s at kind) (at + 1) start) = simp length-putWord (rows-inside f s e has h) in

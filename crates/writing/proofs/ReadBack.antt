@@ -16,7 +16,7 @@ use Rattle.entries.specs.declared.Form.{Form}
 use Rattle.entries.specs.Layout.{HasContents, firstEntry, entryWords, leastBytes, mostFirst, mostBytes, mostWidth, widthOf}
 use Rattle.entries.specs.Entries.{entryWord, kindAt, startAt, rowsAt, dueAt}
 use Rattle.entries.proofs.Forms.{first-is, word-inside}
-use Rattle.writing.specs.Contents.{mostCount, putCount, putEntry, dueIn, putEntries, putContents, Writable}
+use Rattle.writing.specs.Contents.{mostWritten, putCount, putEntry, dueIn, putEntries, putContents, Writable}
 use Rattle.writing.proofs.EntryWords.{count-put, count-keeps, length-putEntry, Outside, entry-keeps, entry-keeps-byte, kind-put, start-put, rows-put}
 use Rattle.writing.proofs.EntryByEntry.{as-long, kind-small, rows-small, due-small, span-most}
 
@@ -128,7 +128,7 @@ module _ (f : Form) (s : List ℕ) (word : ℕ) (kinds rows : List ℕ) where
         apart d i b (no p) (yes q) = omega (arith, later (f .words) d e q)
         apart d i b (no p) (no q) = let same : d ≡ e = omega arith in rw same (omega arith)
 
-    pub word-is : word ≤ mostCount → unsignedAt written 0 ≡ word
+    pub word-is : word ≤ mostWritten → unsignedAt written 0 ≡ word
     word-is small = word-stays 0 (λ d h i k. omega arith) ∙ count-put s 0 word (omega (arith, has .long)) small
 
     module _ (can : Writable f kinds rows) where

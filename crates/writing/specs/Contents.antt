@@ -10,8 +10,8 @@ use Rattle.entries.specs.declared.Form.{Form}
 use Rattle.entries.specs.Layout.{firstEntry, firstBody, mostKinds, mostBytes, widthOf}
 
 -- The most that a size, such as a kind, a start or rows, may be as a word: below 2³¹ it reads the same with a sign and without one.
-abbrev pub mostCount : ℕ
-mostCount = 2_147_483_647
+abbrev pub mostWritten : ℕ
+mostWritten = 2_147_483_647
 
 -- The sheet with the size n as word i.
 abbrev pub putCount : List ℕ → ℕ → ℕ → List ℕ

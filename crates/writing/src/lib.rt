@@ -7,7 +7,7 @@ ghost use Prim.Native.Nat.{_+_, _*_, _<_, _≤_};
 ghost use lib.ListN.{length};
 ghost use Rattle.entries.specs.Layout.{latitude, rowBytes, HasContents};
 ghost use Rattle.writing.specs.Rows.{putFigures, putDifferences, putRow};
-ghost use Rattle.writing.specs.Contents.{mostCount, putCount, putEntry, putEntries, putContents, Writable};
+ghost use Rattle.writing.specs.Contents.{mostWritten, putCount, putEntry, putEntries, putContents, Writable};
 
 // The figures become row i's.
 fn put_figures(b: &mut [u8], i: usize, f: Figures)
@@ -41,7 +41,7 @@ pub fn put_row(b: &mut [u8], i: usize, f: Figures, d: Differences)
 
 // The size n becomes word i.
 pub fn put_count(s: &mut [u8], i: usize, n: usize)
-    requires { ⌜ (4 * i + 4 ≤ length (now s)) × (n ≤ mostCount) ⌝ }
+    requires { ⌜ (4 * i + 4 ≤ length (now s)) × (n ≤ mostWritten) ⌝ }
     ensures { λ _. ⌜ now (s .exit) ≡ putCount (now (s .entry)) i n ⌝ }
 {
     words::put_word(s, i, n as i32);
@@ -49,7 +49,7 @@ pub fn put_count(s: &mut [u8], i: usize, n: usize)
 
 // Kind, start and rows become entry e's.
 pub fn put_entry(s: &mut [u8], f: Form, e: usize, kind: usize, start: usize, rows: usize)
-    requires { ⌜ HasContents f (now s) × (e < f .kinds) × (kind ≤ mostCount) × (start ≤ mostCount) × (rows ≤ mostCount) ⌝ }
+    requires { ⌜ HasContents f (now s) × (e < f .kinds) × (kind ≤ mostWritten) × (start ≤ mostWritten) × (rows ≤ mostWritten) ⌝ }
     ensures { λ _. ⌜ now (s .exit) ≡ putEntry f (now (s .entry)) e kind start rows ⌝ }
 {
     let at = f.words * e + entries::FIRST_ENTRY;
@@ -76,7 +76,7 @@ fn put_entries(s: &mut [u8], f: Form, kinds: &[usize], rows: &[usize])
 
 // The table of contents: word 0, and an entry for each of the kinds, with its rows.
 pub fn put_contents(s: &mut [u8], f: Form, word: usize, kinds: &[usize], rows: &[usize])
-    requires { ⌜ HasContents f (now s) × (word ≤ mostCount) × Writable f (now kinds) (now rows) ⌝ }
+    requires { ⌜ HasContents f (now s) × (word ≤ mostWritten) × Writable f (now kinds) (now rows) ⌝ }
     ensures { λ _. ⌜ now (s .exit) ≡ putContents f (now (s .entry)) word (now (kinds .entry)) (now (rows .entry)) ⌝ }
 {
     put_count(s, 0, word);
