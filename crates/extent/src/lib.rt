@@ -22,7 +22,7 @@ fn within(s: &[u8], place: Place, kind: usize, z: i64) -> bool
     reading::within_rows(place.rows, place.step, z)
 }
 
-// The place of an offset in the kind's table, worked once for all that is read there. `place` is that of its body. The usual step is tested for, and given as a constant.
+// The position of an offset in the kind's table, worked once for all that is read there. `place` is its body's. The usual step is tested for, and given as a constant.
 pub fn position(s: &[u8], place: Place, kind: usize, offset: u64) -> At
     requires { ⌜ Placed (now s) kind place × (2 ≤ leastRows kind) × Within (now s) kind offset ⌝ }
     ensures { λ r. ⌜ InTable (now (s .entry)) kind r × (offsetOf r ≡ offset) ⌝ }

@@ -34,14 +34,17 @@ pub struct Taken {
     pub c: Rounded,
 }
 
-// Reading: the figures at the latitude's place and at that of the size of L.
+// Reading: the figures at the latitude's position and at that of the size of L.
 fn taken_at(s: &[u8], p: Places, north: At, west: At) -> Taken
     requires { ⌜ KnownToPass (now s) p × InTable (now s) latitude north × InTable (now s) longitude west ⌝ }
     ensures { λ r. ⌜ r ≡ takenAt (now (s .entry)) (offsetOf north) (offsetOf west) ⌝ }
 {
+    let read = tables::longitude_at(s, p, west);
+    let b = read.b;
+    let c = read.c;
     Taken {
-        c: tables::c_at(s, p, west),
-        b: tables::b_at(s, p, west),
+        b,
+        c,
         h: tables::h_at(s, p, north),
         a: tables::a_at(s, p, north),
         v: tables::v_at(s, p, north),
@@ -89,7 +92,7 @@ pub fn worked(f: Taken, easting: i64, l: i64) -> Plane
     }
 }
 
-// The point on the plane, of a latitude and a longitude within the tables. Each place is worked once.
+// The point on the plane, of a latitude and a longitude within the tables. Each position is worked once.
 fn plane_at(s: &[u8], p: Places, o: Origin, latitude: i32, longitude: i32) -> Plane
     requires { ⌜ KnownToPass (now s) p × (o ≡ originOf (now s)) × (latitudeKnown (now s) latitude ≡ true) × (longitudeKnown (now s) longitude ≡ true) ⌝ }
     ensures { λ r. ⌜ r ≡ planeAt (now (s .entry)) latitude longitude ⌝ }

@@ -92,7 +92,7 @@ fn seconds_past(s: &[u8], p: Places, reduced: i64, row: usize) -> RoundedSize
     seconds_between(y0, tables::y0_of(s, p, row + 1), reduced)
 }
 
-// What L is worked from, beside b, as it was read: H and a at the latitude's place.
+// What L is worked from, beside b, as it was read: H and a at the latitude's position.
 pub struct Taken {
     pub h: RoundedSize,
     pub a: Rounded,
@@ -133,7 +133,7 @@ pub fn size_of(f: Taken, b: Rounded, x: u64, met: bool) -> Rounded
     }
 }
 
-// The point on the earth, of x′, the latitude's place and the size of L, which is within its table. Its numbers are measured from the sheet's origin, and no table is read.
+// The point on the earth, of x′, the latitude's position and the size of L, which is within its table. Its numbers are measured from the sheet's origin, and no table is read.
 fn geographic_at(s: &[u8], o: Origin, xp: i64, at: At, size: Rounded, met: bool) -> Geographic
     requires { ⌜ (checkOf (now s) .number ≡ 0) × (o ≡ originOf (now s)) × InTable (now s) latitude at × (size .value ≡ sizeOf (now s) (natAbs xp) (offsetOf at)) × (sizeKnown (now s) (size .value) ≡ true) × (size .half ≡ sizeHalf (now s) (natAbs xp) (offsetOf at)) ⌝ }
     ensures { λ r. ⌜ r ≡ geographicAt (now (s .entry)) xp (offsetOf at) met ⌝ }
@@ -147,7 +147,7 @@ fn geographic_at(s: &[u8], o: Origin, xp: i64, at: At, size: Rounded, met: bool)
     }
 }
 
-// 11, or the point on the earth, from x′ and the latitude's place.
+// 11, or the point on the earth, from x′ and the latitude's position.
 fn from_distance(s: &[u8], p: Places, o: Origin, xp: i64, at: At, met: bool) -> Geographic
     requires { ⌜ KnownToPass (now s) p × (o ≡ originOf (now s)) × (eastingKnown (now s) xp ≡ true) × InTable (now s) latitude at ⌝ }
     ensures { λ r. ⌜ r ≡ fromDistance (now (s .entry)) xp (offsetOf at) met ⌝ }
@@ -176,7 +176,7 @@ fn from_distance(s: &[u8], p: Places, o: Origin, xp: i64, at: At, met: bool) -> 
     geographic_at(s, o, xp, at, size, met)
 }
 
-// 14, 11, or the point on the earth, from x′ and the reduced northing. The row that is found and the seconds past it are the latitude's place.
+// 14, 11, or the point on the earth, from x′ and the reduced northing. The row that is found and the seconds past it are the latitude's position.
 fn from_reduced(s: &[u8], p: Places, o: Origin, xp: i64, reduced: i64, met: bool) -> Geographic
     requires { ⌜ KnownToPass (now s) p × (o ≡ originOf (now s)) × (eastingKnown (now s) xp ≡ true) × (natAbs reduced < 2 ^ 62) ⌝ }
     ensures { λ r. ⌜ r ≡ fromReduced (now (s .entry)) xp reduced met ⌝ }

@@ -78,7 +78,7 @@ module _ (n step offset i : ℕ) (two : 2 ≤ n) (p : 0 < step) (h : offset ≤ 
   pub at-pair : step ≤ mostStep → let at : At = record { row = i; past = offset - i * step; step = step } in Among n at × (offsetOf at ≡ offset) × (at .step ≡ step)
   at-pair most = (record { stepped = record { past = past-most; some = p; most = most }; next = omega arith }, omega (arith, back-most), refl)
 
--- ---- a place among n rows
+-- ---- a position among n rows
 module _ (n : ℕ) (at : At) (among : Among n at) where
   -- its offset is not past the last row
   pub at-most : offsetOf at ≤ (n - 1) * at .step

@@ -31,7 +31,7 @@ valueAt f step offset = pastRow f (offset / step) (offset % step) step
 unfoldable pub valueHalf : (ℕ → ℤ) → ℕ → ℕ → Bool
 valueHalf f step offset = pastRowHalf f (offset / step) (offset % step) step
 
--- A place in a table, `At`: so much past a row, up to the whole step to the next. What is read there is the value at the place's offset from row 0.
+-- A position in a table, `At`: so much past a row, up to the whole step to the next. What is read there is the value at the position's offset from row 0.
 abbrev pub offsetOf : At → ℕ
 offsetOf at = at .row * at .step + at .past
 
@@ -40,7 +40,7 @@ pub record Stepped (at : At) : Type 0 where
   pub some : 0 < at .step
   pub most : at .step ≤ mostStep
 
--- The place lies among n rows: its row has a next.
+-- The position lies among n rows: its row has a next.
 pub record Among (n : ℕ) (at : At) : Type 0 where
   pub stepped : Stepped at
   pub next : at .row + 1 < n

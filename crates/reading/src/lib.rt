@@ -10,7 +10,7 @@ ghost use lib.Signed.{leZ};
 ghost use Rattle.rounding.specs.Ranges.{mostCount, mostStep};
 ghost use Rattle.reading.specs.Tables.{column, pastRow, pastRowHalf, withinRows, offsetOf, Stepped, Among};
 
-// A place in a table: so much past a row that has a next, up to the whole step between the two. The last row is a whole step past the one before it, so that there is always a next.
+// A position in a table: so much past a row that has a next, up to the whole step between the two. The last row is a whole step past the one before it, so that there is always a next.
 // Step and distance have 32 bits, as a word has: so products with a word are narrow ones, which some processors work faster.
 pub struct At {
     pub row: usize,
@@ -18,7 +18,7 @@ pub struct At {
     pub step: u32,
 }
 
-// The value of column c at a place, for a body of w words in a row.
+// The value of column c at a position, for a body of w words in a row.
 pub fn past_row(b: &[u8], w: usize, c: usize, at: At) -> Rounded
     requires { ⌜ Stepped at × (4 * (w * at .row + c + w) + 4 ≤ length (now b)) ⌝ }
     ensures { λ r. ⌜ (r .value ≡ pastRow (column (now (b .entry)) w c) (at .row) (at .past) (at .step)) × (r .half ≡ pastRowHalf (column (now (b .entry)) w c) (at .row) (at .past) (at .step)) ⌝ }
@@ -60,7 +60,7 @@ fn with_next(k: usize, n: usize) -> usize
     k - beyond(k, n - 2)
 }
 
-// The place of an offset from row 0, among n rows a step apart.
+// The position of an offset from row 0, among n rows a step apart.
 pub fn at_offset(n: usize, step: u32, offset: u32) -> At
     requires { ⌜ (2 ≤ n) × (0 < step) × (step ≤ mostStep) × (offset ≤ (n - 1) * step) ⌝ }
     ensures { λ r. ⌜ Among n r × (offsetOf r ≡ offset) × (r .step ≡ step) ⌝ }

@@ -69,7 +69,7 @@ fn print_line(letter: &[u8], first: i32, second: i32, number: u32, third: i32, f
 
 // ---- on a sheet
 
-// What the sheet has at a latitude's place.
+// What the sheet has at a latitude's position.
 fn show_latitude(s: &[u8], p: Places, at: At)
     requires { ⌜ KnownToPass (now s) p × InTable (now s) latitude at ⌝ }
 {
@@ -85,8 +85,9 @@ fn show_longitude(s: &[u8], p: Places, size: u64)
 {
     let at = extent::position(s, p.longitude, entries::LONGITUDE, size);
     print_size(b" q ", steps::q_of(size).value);
-    print_figure(b" b ", tables::b_at(s, p, at).value);
-    print_figure(b" c ", tables::c_at(s, p, at).value);
+    let read = tables::longitude_at(s, p, at);
+    print_figure(b" b ", read.b.value);
+    print_figure(b" c ", read.c.value);
 }
 
 // The figures of the way forward, of a latitude and a longitude within the tables.

@@ -44,9 +44,6 @@ usual-some =
 farthest-small : (kind : ℕ) → 1 ≤ kind → kind ≤ lastKind → farthest kind < 4_294_967_296
 farthest-small = by-kind (λ (k : ℕ). farthest k < 4_294_967_296) (lit< tt) (lit< tt) (lit< tt) (lit< tt) (lit< tt) (lit< tt)
 
-pub usual-fits : (kind step : ℕ) → step ≡ usualStep kind → 1 ≤ kind → kind ≤ lastKind → Fits w32 step
-usual-fits kind step e l h = rw e (record { fits = lt-of-le-of-lt (usual-most kind l h) (lit< tt) })
-
 module _ (s : List ℕ) (z : contentsOf s .number ≡ 0) (kind : ℕ) (l : 1 ≤ kind) (h : kind ≤ lastKind) where
   pub step-most : stepOf s kind ≤ mostStep
   step-most = rw (step-usual s z kind l h) (usual-most kind l h)
@@ -94,7 +91,7 @@ module _ (s : List ℕ) (kind : ℕ) (p : Place) (placed : Placed s kind p) wher
     unfolding lastOf
     offset-inside offset within = rw (place-rows, is-step) (within .most)
 
-    -- a place among its rows, at its step
+    -- a position among its rows, at its step
     pub in-table : (at : At) → Among (p .rows) at → at .step ≡ step → InTable s kind at
     in-table at among same = record { among = rw place-rows at among; step = same ∙ is-step }
 
@@ -132,7 +129,7 @@ module _ (s : List ℕ) (kind : ℕ) (p : Place) (placed : Placed s kind p) wher
           let size = word-size b (width * i + number) n q small (rw figure-word sign) in
           held-size w64 (le-of-lt small) tt .is ∙ sym size ∙ figure-word
 
-    -- what a reading at a place asks
+    -- what a reading at a position asks
     module _ (number : ℕ) (at : At) (there : InTable s kind at) where
       among : Among (p .rows) at
       among = rw place-rows (there .among)
@@ -152,18 +149,18 @@ module _ (s : List ℕ) (kind : ℕ) (p : Place) (placed : Placed s kind p) wher
       pub next-sign : NotNegative (figureOf s kind number) (rowsOf s kind) → leZ (pos 0) (column b width number (at .row + 1)) ≡ true
       next-sign all = signs all .1
 
-      -- and what it gives, with the place's step or with a number that it was found to be
-      module _ (step : ℕ) (same : at .step ≡ step) where
+      -- and what it gives, with the position's step or with a number that it was found to be
+      module _ (step : ℕ) (same : step ≡ at .step) where
         pub at-stepped : Stepped (record { row = at .row; past = at .past; step = step })
-        at-stepped = record { past = rw (← same) (there .among .stepped .past); some = rw (← same) (there .among .stepped .some); most = rw (← same) (there .among .stepped .most) }
+        at-stepped = record { past = rw same (there .among .stepped .past); some = rw same (there .among .stepped .some); most = rw same (there .among .stepped .most) }
 
         pub value-is : (r : ℤ) → r ≡ pastRow (column b width number) (at .row) (at .past) step → r ≡ figureAt s kind number (offsetOf at)
-        value-is r q = q ∙ ap (λ (n : ℕ). pastRow (column b width number) (at .row) (at .past) n) (sym same) ∙ at-value (p .rows) at among (column b width number) ∙ rw (lent-is, there .step)
+        value-is r q = q ∙ ap (λ (n : ℕ). pastRow (column b width number) (at .row) (at .past) n) same ∙ at-value (p .rows) at among (column b width number) ∙ rw (lent-is, there .step)
 
         pub half-is : (r : Bool) → r ≡ pastRowHalf (column b width number) (at .row) (at .past) step → r ≡ figureHalf s kind number (offsetOf at)
-        half-is r q = q ∙ ap (λ (n : ℕ). pastRowHalf (column b width number) (at .row) (at .past) n) (sym same) ∙ at-half (p .rows) at among (column b width number) ∙ rw (lent-is, there .step)
+        half-is r q = q ∙ ap (λ (n : ℕ). pastRowHalf (column b width number) (at .row) (at .past) n) same ∙ at-half (p .rows) at among (column b width number) ∙ rw (lent-is, there .step)
 
--- ---- a place in a table stands at an offset within it
+-- ---- a position in a table stands at an offset within it
 pub table-within : (s : List ℕ) (kind : ℕ) (at : At) → InTable s kind at → Within s kind (offsetOf at)
 unfolding lastOf
 table-within s kind at there = record { most = rw (← there .step) (at-most (rowsOf s kind) at (there .among)) }

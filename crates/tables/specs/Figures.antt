@@ -30,7 +30,7 @@ figureHalf s kind number offset = valueHalf (figureOf s kind number) (stepOf s k
 abbrev pub latitudeHalf : List ℕ → ℕ → ℕ → Bool
 latitudeHalf s number t = valueHalf (figureOf s latitude number) oneMinute t
 
--- A place in the kind's table: among its rows, at its step.
+-- A position in the kind's table: among its rows, at its step.
 pub record InTable (s : List ℕ) (kind : ℕ) (at : At) : Type 0 where
   pub among : Among (rowsOf s kind) at
   pub step : at .step ≡ stepOf s kind

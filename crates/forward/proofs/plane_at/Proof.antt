@@ -39,7 +39,7 @@ l-is c =
 size-within : (c : tie.After-size) → Within (now (c .before .before .before .before .before .args .s)) longitude (c .size .result)
 size-within c = rw (c .size .ensures, l-is (c .before .before)) (longitude-within _ _ (c .before .before .before .before .before .pre .3))
 
--- the places, where the figures were taken, and the false easting
+-- the positions, where the figures were taken, and the false easting
 module _ (c : tie.After-taken-at) where
   abbrev ls : tie.After-l-of
   ls = c .before .before .before .before

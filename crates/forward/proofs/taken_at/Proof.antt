@@ -9,15 +9,13 @@ returns c =
     let v = c .before in
     let a = v .before in
     let h = a .before in
-    let b = h .before in
-    taken-is _ _ _ _ (c .y0-at .ensures .0) (c .y0-at .ensures .2) (h .h-at .ensures .0) (h .h-at .ensures .3) (v .v-at .ensures .0) (v .v-at .ensures .2) (a .a-at .ensures .0) (a .a-at .ensures .2)
-    (b .b-at .ensures .0) (b .b-at .ensures .2) (b .before .c-at .ensures .0) (b .before .c-at .ensures .2)
+    let read = h .before .before .before .longitude-at .ensures in
+    taken-is _ _ _ _ (c .y0-at .ensures .0) (c .y0-at .ensures .2) (h .h-at .ensures .0) (h .h-at .ensures .3) (v .v-at .ensures .0) (v .v-at .ensures .2) (a .a-at .ensures .0) (a .a-at .ensures .2) (read .0) (read .2) (read .3) (read .5)
 
 pub taken-at-spec : {M : Type 1} → statement M
 taken-at-spec =
     tie.close
     (tie.spec
-    (λ c κs. search needs)
     (λ c κs. search needs)
     (λ c κs. search needs)
     (λ c κs. search needs)
