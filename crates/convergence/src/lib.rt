@@ -7,6 +7,8 @@ ghost use mathlib.Core.Bool.{true};
 ghost use Prim.Native.Nat.{_≤_};
 ghost use lib.IntN.{natAbs};
 ghost use Rattle.rounding.specs.Ranges.{mostM, mostWord};
+ghost use Rattle.entries.specs.Layout.{northing, scale};
+ghost use Rattle.entries.specs.Entries.{stepOf};
 ghost use Rattle.sheet_check.specs.Check.{KnownToPass};
 ghost use Rattle.extent.specs.Extent.{scaleKnown, northingKnown};
 ghost use Rattle.convergence.specs.Grid.{gridOf, takenAt, workedOf};
@@ -25,18 +27,32 @@ pub struct Taken {
     pub k: Rounded,
 }
 
-// Reading: the figures of a point within the tables.
+// Reading: the figures of a point within the tables, at the steps that the two tables have.
+fn taken_by(s: &[u8], p: Places, xp: i64, y: i32, north: u64, east: u64) -> Taken
+    requires { ⌜ KnownToPass (now s) p × (scaleKnown (now s) xp ≡ true) × (northingKnown (now s) y ≡ true) × (north ≡ stepOf (now s) northing) × (east ≡ stepOf (now s) scale) ⌝ }
+    ensures { λ r. ⌜ (r ≡ takenAt (now (s .entry)) xp y) × (r .m .value ≤ mostM) × (natAbs (r .k .value) ≤ 10_010_000) ⌝ }
+{
+    let at = extent::position(s, p.northing, entries::NORTHING, north, (y as i64) as u64);
+    let m = tables::m_at(s, p, at);
+    let size = rounding::size(xp);
+    let beside = extent::position(s, p.scale, entries::SCALE, east, size);
+    Taken {
+        m,
+        k: tables::k_at(s, p, beside),
+    }
+}
+
+// The same at the tables' own steps. The usual ones are tested for, and given as constants.
 fn taken_at(s: &[u8], p: Places, xp: i64, y: i32) -> Taken
     requires { ⌜ KnownToPass (now s) p × (scaleKnown (now s) xp ≡ true) × (northingKnown (now s) y ≡ true) ⌝ }
     ensures { λ r. ⌜ (r ≡ takenAt (now (s .entry)) xp y) × (r .m .value ≤ mostM) × (natAbs (r .k .value) ≤ 10_010_000) ⌝ }
 {
-    let north = extent::position(s, p.northing, entries::NORTHING, (y as i64) as u64);
-    let m = tables::m_at(s, p, north);
-    let east = extent::position(s, p.scale, entries::SCALE, rounding::size(xp));
-    Taken {
-        m,
-        k: tables::k_at(s, p, east),
+    let north = entries::usual_step(entries::NORTHING);
+    let east = entries::usual_step(entries::SCALE);
+    if (p.northing.step == north) & (p.scale.step == east) {
+        return taken_by(s, p, xp, y, north, east);
     }
+    taken_by(s, p, xp, y, p.northing.step, p.scale.step)
 }
 
 // Working: the grid at a point, from its figures and x′.

@@ -131,11 +131,6 @@ module _ (b : List ℕ) (n r : ℕ) (f : Figures) (long : rowBytes latitude * n 
     pub after-worked : (d : Differences) → d ≡ differencesOf f g → d ≡ workedAt (putFigures b r f) n r
     after-worked d w = worked-with (putFigures b r f) n r d f g l (sym here) (e ∙ sym (figures-elsewhere b r f (r + 1) (omega arith))) w
 
-  -- g is the figures of the row before
-  module _ (g : Figures) (e : g ≡ figuresAt b (r - 1)) (h : 0 < r) where
-    pub before-bounds : boundBefore b r f ≡ true → withinBounds g f ≡ true
-    before-bounds k = rw e (bound-before b r f n k h)
-
   module _ (u : List ℕ) (d : Differences) (w : d ≡ workedAt (putFigures b r f) n r) (q : u ≡ putRow b r f d) where
     own-is : u ≡ reworked (putFigures b r f) n r
     own-is = rework-is (putFigures b r f) n r d u w q
@@ -144,11 +139,22 @@ module _ (b : List ℕ) (n r : ℕ) (f : Figures) (long : rowBytes latitude * n 
     unfolding rewritten
     first-row h = own-is ∙ sym (where-beyond 0 r (reworked (reworked (putFigures b r f) n r) n (r - 1)) (reworked (putFigures b r f) n r) h)
 
-    pub later-row : (g : Figures) → g ≡ figuresAt b (r - 1) → 0 < r → (k : Differences) (v : List ℕ) → k ≡ differencesOf g f → v ≡ putDifferences u (r - 1) k → v ≡ rewritten b n r f
-    unfolding rewritten
-    later-row g e h k v m z =
-        let at : r - 1 + 1 ≡ r = omega arith in
-        let prior : g ≡ figuresAt u (r - 1) = e ∙ sym (rw own-is (figures-reworked (putFigures b r f) n r (r - 1) ∙ figures-elsewhere b r f (r - 1) (omega arith))) in
-        let this : f ≡ figuresAt u (r - 1 + 1) = rw (at, own-is) (sym (figures-reworked (putFigures b r f) n r r ∙ here)) in
-        rework-is u n (r - 1) k v (worked-with u n (r - 1) k g f (omega arith) prior this m) z
-        ∙ rw own-is (sym (where-below 0 r (reworked (reworked (putFigures b r f) n r) n (r - 1)) (reworked (putFigures b r f) n r) h))
+    -- g is the figures of the row before
+    module _ (h : 0 < r) (g : Figures) (e : g ≡ figuresAt u (r - 1)) where
+      at : r - 1 + 1 ≡ r
+      at = omega arith
+
+      prior : g ≡ figuresAt b (r - 1)
+      prior = e ∙ rw own-is (figures-reworked (putFigures b r f) n r (r - 1) ∙ figures-elsewhere b r f (r - 1) (omega arith))
+
+      this : f ≡ figuresAt u (r - 1 + 1)
+      this = rw (at, own-is) (sym (figures-reworked (putFigures b r f) n r r ∙ here))
+
+      pub before-bounds : boundBefore b r f ≡ true → withinBounds g f ≡ true
+      before-bounds k = rw prior (bound-before b r f n k h)
+
+      pub later-row : (k : Differences) (v : List ℕ) → k ≡ differencesOf g f → v ≡ putDifferences u (r - 1) k → v ≡ rewritten b n r f
+      unfolding rewritten
+      later-row k v m z =
+          rework-is u n (r - 1) k v (worked-with u n (r - 1) k g f (omega arith) e this m) z
+          ∙ rw own-is (sym (where-below 0 r (reworked (reworked (putFigures b r f) n r) n (r - 1)) (reworked (putFigures b r f) n r) h))

@@ -22,18 +22,16 @@ fn differences_after(b: &[u8], n: usize, r: usize, f: Figures) -> Differences
     rules::no_differences()
 }
 
-// Row r of n gets the new figures, and it and the row before it their differences. All is read before anything is written: so the compiler reads each neighbour once, when it is judged.
+// Row r of n gets the new figures, and it and the row before it their differences. These are worked from the figures in hand, not from what was just written.
 fn rewrite(b: &mut [u8], n: usize, r: usize, f: Figures)
     requires { ⌜ (rowBytes latitude * n ≤ length (now b)) × (r < n) × (figuresInRange f ≡ true) × (boundBefore (now b) r f ≡ true) × (boundAfter (now b) n r f ≡ true) ⌝ }
     ensures { λ _. ⌜ now (b .exit) ≡ rewritten (now (b .entry)) n r f ⌝ }
 {
     let own = differences_after(b, n, r, f);
+    writing::put_row(b, r, f, own);
     if 0 < r {
         let before = rules::differences_of(latitude_rows::figures_at(b, r - 1), f);
-        writing::put_row(b, r, f, own);
         writing::put_differences(b, r - 1, before);
-    } else {
-        writing::put_row(b, r, f, own);
     }
 }
 

@@ -22,16 +22,13 @@ fn within(s: &[u8], place: Place, kind: usize, z: i64) -> bool
     reading::within_rows(place.rows, place.step, z)
 }
 
-// The position of an offset in the kind's table, worked once for all that is read there. `place` is its body's. The usual step is tested for, and given as a constant.
-pub fn position(s: &[u8], place: Place, kind: usize, offset: u64) -> At
-    requires { ⌜ Placed (now s) kind place × (2 ≤ leastRows kind) × Within (now s) kind offset ⌝ }
+// The position of an offset in the kind's table, worked once for all that is read there. `place` is its body's, and the step the table's: where it is given as a constant, the compiler
+// divides by it with a product.
+pub fn position(s: &[u8], place: Place, kind: usize, step: u64, offset: u64) -> At
+    requires { ⌜ Placed (now s) kind place × (2 ≤ leastRows kind) × (step ≡ stepOf (now s) kind) × Within (now s) kind offset ⌝ }
     ensures { λ r. ⌜ InTable (now (s .entry)) kind r × (offsetOf r ≡ offset) ⌝ }
 {
-    let usual = entries::usual_step(kind);
-    if place.step == usual {
-        return reading::at_offset(place.rows, usual as u32, offset as u32);
-    }
-    reading::at_offset(place.rows, place.step as u32, offset as u32)
+    reading::at_offset(place.rows, step as u32, offset as u32)
 }
 
 // The latitude's distance from row 0, in 0.001″.

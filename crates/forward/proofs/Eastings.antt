@@ -19,12 +19,13 @@ use Rattle.tables.specs.Figures.{falseEasting, y0At, y0Half, hAt, hHalf, vAt, v
 use Rattle.tables.proofs.Ranges.{easting-size, y0-between, h-between, h-least, v-between, a-most, b-between, b-slope, c-between}
 use Rattle.extent.specs.Extent.{fromFirst, lOf}
 use Rattle.extent.proofs.Reach.{longitude-span}
+use Rattle.forward.specs.declared.Longitude.{Longitude}
 use Rattle.forward.specs.declared.Taken.{Taken}
-use Rattle.forward.specs.Forward.{xSize, xOf, xHalf, yOf, yHalf, planeFrom, planeAt, takenAt, workedX, workedXHalf, workedY, workedYHalf, workedOf, Workable}
+use Rattle.forward.specs.Forward.{xSize, xOf, xHalf, yOf, yHalf, planeFrom, planeAt, longitudeAt, takenAt, workedX, workedXHalf, workedY, workedYHalf, workedOf, Workable}
 
 -- ---- the two halves are the whole
 pub taken-worked : (s : List ℕ) (t : ℕ) (l : ℤ) → workedOf (takenAt s t (natAbs l)) (falseEasting s) l ≡ planeFrom s t l
-unfolding workedOf takenAt workedX workedY workedXHalf workedYHalf planeFrom xOf yOf xHalf yHalf xSize
+unfolding workedOf takenAt longitudeAt workedX workedY workedXHalf workedYHalf planeFrom xOf yOf xHalf yHalf xSize
 taken-worked s t l = refl
 
 -- of a point: f are the figures at t from row 0 and at n, and l and e have the bits of L and C
@@ -33,12 +34,15 @@ pub plane-worked : (s : List ℕ) (north west : ℤ) {f : Taken} {e l : ℤ} {t 
 unfolding planeAt
 plane-worked s north west p q r g h = rw (p, q, r, g, h) (taken-worked s (natAbs (fromFirst s north)) (lOf s west))
 
--- the figures, as they were read
+-- the figures, as they were read: n is the size of L
+pub longitude-is : (s : List ℕ) (size : ℕ) (f : Longitude) {n : ℕ} → n ≡ size → f .b .value ≡ bAt s n → f .b .half ≡ bHalf s n → f .c .value ≡ cAt s n → f .c .half ≡ cHalf s n → f ≡ longitudeAt s size
+unfolding longitudeAt
+longitude-is s size f e b b′ c c′ = rw (← e, ← b, ← b′, ← c, ← c′)
+
 pub taken-is : (s : List ℕ) (t size : ℕ) (f : Taken) → f .y0 .value ≡ y0At s t → f .y0 .half ≡ y0Half s t → f .h .value ≡ hAt s t → f .h .half ≡ hHalf s t
-    → f .v .value ≡ vAt s t → f .v .half ≡ vHalf s t → f .a .value ≡ aAt s t → f .a .half ≡ aHalf s t
-    → f .b .value ≡ bAt s size → f .b .half ≡ bHalf s size → f .c .value ≡ cAt s size → f .c .half ≡ cHalf s size → f ≡ takenAt s t size
+    → f .v .value ≡ vAt s t → f .v .half ≡ vHalf s t → f .a .value ≡ aAt s t → f .a .half ≡ aHalf s t → {read : Longitude} → read ≡ longitudeAt s size → f .b ≡ read .b → f .c ≡ read .c → f ≡ takenAt s t size
 unfolding takenAt
-taken-is s t size f y0 y0′ h h′ v v′ a a′ b b′ c c′ = rw (← y0, ← y0′, ← h, ← h′, ← v, ← v′, ← a, ← a′, ← b, ← b′, ← c, ← c′)
+taken-is s t size f y0 y0′ h h′ v v′ a a′ e b c = rw (← e, ← b, ← c, ← y0, ← y0′, ← h, ← h′, ← v, ← v′, ← a, ← a′)
 
 -- ---- the work, of figures that may be worked
 module _ (f : Taken) (easting l : ℤ) (ok : Workable f easting l) where
@@ -98,7 +102,7 @@ module _ (s : List ℕ) (z : checkOf s .number ≡ 0) (t : ℕ) (ht : Within s l
 
   -- what was read may be worked
   pub taken-workable : (l : ℤ) → Within s longitude (natAbs l) → Workable (takenAt s t (natAbs l)) (falseEasting s) l
-  unfolding takenAt
+  unfolding takenAt longitudeAt
   taken-workable l hl = record {
     h-most = h-most;
     v-most = v-most;
@@ -110,3 +114,7 @@ module _ (s : List ℕ) (z : checkOf s .number ≡ 0) (t : ℕ) (ht : Within s l
     l-most = s-most (natAbs l) hl;
     not-negative = x-not-negative (natAbs l) hl;
   }
+
+  -- as the code has it: k and e have the bits of L and C
+  pub workable-as-read : (l : ℤ) → Within s longitude (natAbs l) → {f : Taken} {e k : ℤ} {d n : ℕ} → f ≡ takenAt s d n → d ≡ t → n ≡ natAbs k → e ≡ falseEasting s → k ≡ l → Workable f e k
+  workable-as-read l hl p q r g h = rw (p, q, r, g, h) (taken-workable l hl)

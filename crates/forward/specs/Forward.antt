@@ -12,6 +12,7 @@ use Rattle.refusals.specs.Ladder.{need}
 use Rattle.tables.specs.Figures.{falseEasting, y0At, y0Half, hAt, hHalf, vAt, vHalf, aAt, aHalf, bAt, bHalf, cAt, cHalf}
 use Rattle.extent.specs.Extent.{fromFirst, latitudeKnown, lOf, longitudeKnown}
 use Rattle.forward.specs.declared.Plane.{Plane}
+use Rattle.forward.specs.declared.Longitude.{Longitude}
 use Rattle.forward.specs.declared.Taken.{Taken}
 
 -- The answer: x and y, in 0.01 ft, and whether "some rounding in it met a half (no in a refusal)". "A refused conversion carries zeros."
@@ -56,6 +57,10 @@ forwardOf s north west =
     (planeAt s north west))
 
 -- ---- the same in two halves: the figures as they are read, and the work on figures alone, which other ways to the figures share
+-- "from s take b, c."
+unfoldable pub longitudeAt : List ℕ → ℕ → Longitude
+longitudeAt s size = record { b = record { value = bAt s size; half = bHalf s size }; c = record { value = cAt s size; half = cHalf s size } }
+
 -- "From latitude take y0, H, V, a; from s take b, c."
 unfoldable pub takenAt : List ℕ → ℕ → ℕ → Taken
 takenAt s t size = record {
@@ -63,8 +68,8 @@ takenAt s t size = record {
   h = record { value = hAt s t; half = hHalf s t };
   v = record { value = vAt s t; half = vHalf s t };
   a = record { value = aAt s t; half = aHalf s t };
-  b = record { value = bAt s size; half = bHalf s size };
-  c = record { value = cAt s size; half = cHalf s size };
+  b = longitudeAt s size .b;
+  c = longitudeAt s size .c;
 }
 
 -- x and y of the figures f, with their marks. `easting` is C.

@@ -10,11 +10,12 @@ ghost use Prim.Native.Nat.{_≤_};
 ghost use lib.IntN.{natAbs};
 ghost use Rattle.rounding.specs.Ranges.{mostV, mostC, mostS};
 ghost use Rattle.entries.specs.Layout.{latitude, longitude};
+ghost use Rattle.entries.specs.Entries.{stepOf, Within};
 ghost use Rattle.sheet_check.specs.Check.{KnownToPass};
 ghost use Rattle.reading.specs.Tables.{offsetOf};
 ghost use Rattle.tables.specs.Figures.{InTable, originOf};
 ghost use Rattle.extent.specs.Extent.{latitudeKnown, longitudeKnown};
-ghost use Rattle.forward.specs.Forward.{planeAt, forwardOf, takenAt, workedX, workedXHalf, workedY, workedYHalf, workedOf, Workable};
+ghost use Rattle.forward.specs.Forward.{planeAt, forwardOf, longitudeAt, takenAt, workedX, workedXHalf, workedY, workedYHalf, workedOf, Workable};
 
 // A point on the plane: x and y in 0.01 ft, and whether some rounding on the way to them met a half. A refusal has its number, zeros and no half.
 pub struct Plane {
@@ -34,12 +35,42 @@ pub struct Taken {
     pub c: Rounded,
 }
 
-// Reading: the figures at the latitude's position and at that of the size of L.
-fn taken_at(s: &[u8], p: Places, north: At, west: At) -> Taken
-    requires { ⌜ KnownToPass (now s) p × InTable (now s) latitude north × InTable (now s) longitude west ⌝ }
-    ensures { λ r. ⌜ r ≡ takenAt (now (s .entry)) (offsetOf north) (offsetOf west) ⌝ }
+// b and c at one size of L.
+pub struct Longitude {
+    pub b: Rounded,
+    pub c: Rounded,
+}
+
+// Reading: b and c, at a size of L and at the step that the table has.
+fn longitude_by(s: &[u8], p: Places, step: u64, size: u64) -> Longitude
+    requires { ⌜ KnownToPass (now s) p × (step ≡ stepOf (now s) longitude) × Within (now s) longitude size ⌝ }
+    ensures { λ r. ⌜ r ≡ longitudeAt (now (s .entry)) size ⌝ }
 {
-    let read = tables::longitude_at(s, p, west);
+    let at = extent::position(s, p.longitude, entries::LONGITUDE, step, size);
+    Longitude {
+        c: tables::c_at(s, p, at),
+        b: tables::b_at(s, p, at),
+    }
+}
+
+// The same at the table's own step. The usual one is tested for, and given as a constant; position and readings stand together behind the test, or the compiler would make the two ways one.
+fn longitude_at(s: &[u8], p: Places, size: u64) -> Longitude
+    requires { ⌜ KnownToPass (now s) p × Within (now s) longitude size ⌝ }
+    ensures { λ r. ⌜ r ≡ longitudeAt (now (s .entry)) size ⌝ }
+{
+    let usual = entries::usual_step(entries::LONGITUDE);
+    if p.longitude.step == usual {
+        return longitude_by(s, p, usual, size);
+    }
+    longitude_by(s, p, p.longitude.step, size)
+}
+
+// Reading: the figures at the latitude's position and at the size of L.
+fn taken_at(s: &[u8], p: Places, north: At, size: u64) -> Taken
+    requires { ⌜ KnownToPass (now s) p × InTable (now s) latitude north × Within (now s) longitude size ⌝ }
+    ensures { λ r. ⌜ r ≡ takenAt (now (s .entry)) (offsetOf north) size ⌝ }
+{
+    let read = longitude_at(s, p, size);
     let b = read.b;
     let c = read.c;
     Taken {
@@ -99,9 +130,9 @@ fn plane_at(s: &[u8], p: Places, o: Origin, latitude: i32, longitude: i32) -> Pl
 {
     let t = extent::from_first(s, o, latitude) as u64;
     let l = extent::l_of(s, o, longitude);
-    let north = extent::position(s, p.latitude, entries::LATITUDE, t);
-    let west = extent::position(s, p.longitude, entries::LONGITUDE, rounding::size(l));
-    worked(taken_at(s, p, north, west), o.false_easting, l)
+    let north = extent::position(s, p.latitude, entries::LATITUDE, entries::ONE_MINUTE, t);
+    let taken = taken_at(s, p, north, rounding::size(l));
+    worked(taken, o.false_easting, l)
 }
 
 // Geographic to plane: 10, 11, or x and y, measured from the sheet's origin, which is read once for many points.

@@ -12,11 +12,11 @@ ghost use lib.IntN.{pos, natAbs, _-ℤ_, _*ℤ_};
 ghost use lib.Signed.{leZ, nonNeg};
 ghost use Rattle.rounding.specs.Ranges.{mostGap, mostP, mostD, mostX, mostA, mostB, mostH};
 ghost use Rattle.steps.specs.Steps.{approximateLHalf};
-ghost use Rattle.entries.specs.Layout.{latitude, easting, oneMinute};
-ghost use Rattle.entries.specs.Entries.{rowsOf, Within};
+ghost use Rattle.entries.specs.Layout.{latitude, longitude, northing, easting, oneMinute};
+ghost use Rattle.entries.specs.Entries.{rowsOf, stepOf, Within};
 ghost use Rattle.sheet_check.specs.Check.{checkOf, KnownToPass};
 ghost use Rattle.reading.specs.Tables.{offsetOf};
-ghost use Rattle.tables.specs.Figures.{InTable, originOf};
+ghost use Rattle.tables.specs.Figures.{InTable, originOf, bAt, bHalf};
 ghost use Rattle.extent.specs.Extent.{sizeKnown, eastingKnown, northingKnown, reducedKnown};
 ghost use Rattle.inverse.specs.Inverse.{reducedNorthing, reducedHalf, rowOf, distanceOf, distanceHalf, sizeOf, sizeHalf, geographicAt, fromDistance, fromReduced, inverseOf, forReduction, reducedBy, reducedByHalf, secondsBy, secondsByHalf, takenAt, approximateBy, sizeBy, sizeByHalf};
 
@@ -34,17 +34,31 @@ pub struct ForReduction {
     pub d: Rounded,
 }
 
-// Reading: P and d of a point within their tables.
+// Reading: P and d of a point within their tables, at the steps that the two tables have.
+fn reduction_by(s: &[u8], p: Places, x: u64, y: i32, north: u64, east: u64) -> ForReduction
+    requires { ⌜ KnownToPass (now s) p × Within (now s) easting x × (northingKnown (now s) y ≡ true) × (north ≡ stepOf (now s) northing) × (east ≡ stepOf (now s) easting) ⌝ }
+    ensures { λ r. ⌜ (r ≡ forReduction (now (s .entry)) x y) × (r .p .value ≤ mostP) × (natAbs (r .d .value) ≤ mostD) ⌝ }
+{
+    let at = extent::position(s, p.northing, entries::NORTHING, north, (y as i64) as u64);
+    let beside = extent::position(s, p.easting, entries::EASTING, east, x);
+    ForReduction {
+        p: tables::p_at(s, p, at),
+        d: tables::d_at(s, p, beside),
+    }
+}
+
+// The same at the tables' own steps. The usual ones are tested for, and given as constants; positions and readings stand together behind the test, or the compiler would make the two
+// ways one.
 pub fn for_reduction(s: &[u8], p: Places, x: u64, y: i32) -> ForReduction
     requires { ⌜ KnownToPass (now s) p × Within (now s) easting x × (northingKnown (now s) y ≡ true) ⌝ }
     ensures { λ r. ⌜ (r ≡ forReduction (now (s .entry)) x y) × (r .p .value ≤ mostP) × (natAbs (r .d .value) ≤ mostD) ⌝ }
 {
-    let north = extent::position(s, p.northing, entries::NORTHING, (y as i64) as u64);
-    let east = extent::position(s, p.easting, entries::EASTING, x);
-    ForReduction {
-        p: tables::p_at(s, p, north),
-        d: tables::d_at(s, p, east),
+    let north = entries::usual_step(entries::NORTHING);
+    let east = entries::usual_step(entries::EASTING);
+    if (p.northing.step == north) & (p.easting.step == east) {
+        return reduction_by(s, p, x, y, north, east);
     }
+    reduction_by(s, p, x, y, p.northing.step, p.easting.step)
 }
 
 // Working: the reduced northing, in 0.01 ft.
@@ -109,6 +123,27 @@ fn taken_at(s: &[u8], p: Places, at: At) -> Taken
     }
 }
 
+// Reading: b at a size of L, at the step that the table has.
+fn b_by(s: &[u8], p: Places, step: u64, size: u64) -> Rounded
+    requires { ⌜ KnownToPass (now s) p × (step ≡ stepOf (now s) longitude) × Within (now s) longitude size ⌝ }
+    ensures { λ r. ⌜ (r .value ≡ bAt (now (s .entry)) size) × (natAbs (r .value) ≤ mostB) × (r .half ≡ bHalf (now (s .entry)) size) ⌝ }
+{
+    let at = extent::position(s, p.longitude, entries::LONGITUDE, step, size);
+    tables::b_at(s, p, at)
+}
+
+// The same at the table's own step.
+fn b_at(s: &[u8], p: Places, size: u64) -> Rounded
+    requires { ⌜ KnownToPass (now s) p × Within (now s) longitude size ⌝ }
+    ensures { λ r. ⌜ (r .value ≡ bAt (now (s .entry)) size) × (natAbs (r .value) ≤ mostB) × (r .half ≡ bHalf (now (s .entry)) size) ⌝ }
+{
+    let usual = entries::usual_step(entries::LONGITUDE);
+    if p.longitude.step == usual {
+        return b_by(s, p, usual, size);
+    }
+    b_by(s, p, p.longitude.step, size)
+}
+
 // Working: approximate L, in 0.001″, at the size x of x′.
 pub fn approximate_of(h: RoundedSize, x: u64) -> RoundedSize
     requires { ⌜ (x ≤ mostX) × (30_000_000 ≤ h .value) × (h .value ≤ mostH) ⌝ }
@@ -163,8 +198,8 @@ fn from_distance(s: &[u8], p: Places, o: Origin, xp: i64, at: At, met: bool) -> 
             half: false,
         };
     }
-    let west = extent::position(s, p.longitude, entries::LONGITUDE, approximate.value);
-    let size = size_of(taken, tables::b_at(s, p, west), x, approximate.half);
+    let b = b_at(s, p, approximate.value);
+    let size = size_of(taken, b, x, approximate.half);
     if !extent::size_known(s, p, size.value) {
         return Geographic {
             number: 11,

@@ -83,11 +83,10 @@ fn show_latitude(s: &[u8], p: Places, at: At)
 fn show_longitude(s: &[u8], p: Places, size: u64)
     requires { ⌜ KnownToPass (now s) p × Within (now s) longitude size ⌝ }
 {
-    let at = extent::position(s, p.longitude, entries::LONGITUDE, size);
+    let at = extent::position(s, p.longitude, entries::LONGITUDE, p.longitude.step, size);
     print_size(b" q ", steps::q_of(size).value);
-    let read = tables::longitude_at(s, p, at);
-    print_figure(b" b ", read.b.value);
-    print_figure(b" c ", read.c.value);
+    print_figure(b" b ", tables::b_at(s, p, at).value);
+    print_figure(b" c ", tables::c_at(s, p, at).value);
 }
 
 // The figures of the way forward, of a latitude and a longitude within the tables.
@@ -97,7 +96,7 @@ fn show_point(s: &[u8], p: Places, latitude: i32, longitude: i32)
     let o = tables::origin_of(s, p);
     let t = extent::from_first(s, o, latitude) as u64;
     let l = extent::l_of(s, o, longitude);
-    let north = extent::position(s, p.latitude, entries::LATITUDE, t);
+    let north = extent::position(s, p.latitude, entries::LATITUDE, entries::ONE_MINUTE, t);
     show_latitude(s, p, north);
     print_figure(b" L ", l);
     show_longitude(s, p, rounding::size(l));

@@ -21,7 +21,7 @@ use Rattle.entries.proofs.ByKind.{by-kind}
 use Rattle.contents.specs.Contents.{contentsOf, Placed}
 use Rattle.contents.proofs.Passing.{passed, rows-least, rows-most, step-usual, body-within}
 use Rattle.reading.specs.declared.At.{At}
-use Rattle.reading.specs.Tables.{column, pastRow, pastRowHalf, offsetOf, Stepped, Among, NotNegative}
+use Rattle.reading.specs.Tables.{column, pastRow, pastRowHalf, offsetOf, Among, NotNegative}
 use Rattle.reading.proofs.Pairs.{at-most, at-value, at-half, at-within, at-sizes}
 use Rattle.reading.proofs.Within.{row-within}
 use Rattle.reading.proofs.Unsigned.{word-size}
@@ -149,16 +149,12 @@ module _ (s : List ℕ) (kind : ℕ) (p : Place) (placed : Placed s kind p) wher
       pub next-sign : NotNegative (figureOf s kind number) (rowsOf s kind) → leZ (pos 0) (column b width number (at .row + 1)) ≡ true
       next-sign all = signs all .1
 
-      -- and what it gives, with the position's step or with a number that it was found to be
-      module _ (step : ℕ) (same : step ≡ at .step) where
-        pub at-stepped : Stepped (record { row = at .row; past = at .past; step = step })
-        at-stepped = record { past = rw same (there .among .stepped .past); some = rw same (there .among .stepped .some); most = rw same (there .among .stepped .most) }
+      -- and what it gives
+      pub value-is : (r : ℤ) → r ≡ pastRow (column b width number) (at .row) (at .past) (at .step) → r ≡ figureAt s kind number (offsetOf at)
+      value-is r q = q ∙ at-value (p .rows) at among (column b width number) ∙ rw (lent-is, there .step)
 
-        pub value-is : (r : ℤ) → r ≡ pastRow (column b width number) (at .row) (at .past) step → r ≡ figureAt s kind number (offsetOf at)
-        value-is r q = q ∙ ap (λ (n : ℕ). pastRow (column b width number) (at .row) (at .past) n) same ∙ at-value (p .rows) at among (column b width number) ∙ rw (lent-is, there .step)
-
-        pub half-is : (r : Bool) → r ≡ pastRowHalf (column b width number) (at .row) (at .past) step → r ≡ figureHalf s kind number (offsetOf at)
-        half-is r q = q ∙ ap (λ (n : ℕ). pastRowHalf (column b width number) (at .row) (at .past) n) same ∙ at-half (p .rows) at among (column b width number) ∙ rw (lent-is, there .step)
+      pub half-is : (r : Bool) → r ≡ pastRowHalf (column b width number) (at .row) (at .past) (at .step) → r ≡ figureHalf s kind number (offsetOf at)
+      half-is r q = q ∙ at-half (p .rows) at among (column b width number) ∙ rw (lent-is, there .step)
 
 -- ---- a position in a table stands at an offset within it
 pub table-within : (s : List ℕ) (kind : ℕ) (at : At) → InTable s kind at → Within s kind (offsetOf at)

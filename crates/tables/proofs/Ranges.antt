@@ -1,5 +1,5 @@
 -- The figures of a sheet that passes keep their ranges, at its rows and between them; and y0 rises from row to row. Assumes nothing.
-use mathlib.Core.Path.{_≡_, sym, _∙_}
+use mathlib.Core.Path.{_≡_, sym}
 use mathlib.Core.Bool.{true}
 use mathlib.Core.List.{List}
 use Prim.Native.Nat.{ℕ, _+_, _*_, _-_, _<_, _≤_, zero-le}
@@ -22,12 +22,11 @@ use Rattle.contents.proofs.Passing.{rows-some, rows-least, step-usual}
 use Rattle.sheet_check.specs.Check.{checkOf}
 use Rattle.sheet_check.proofs.Known.{contents-none}
 use Rattle.sheet_check.proofs.Sound.{passes-sound, zone-rows, latitude-rows, longitude-rows, northing-rows, easting-rows, scale-rows}
-use Rattle.reading.specs.declared.At.{At}
 use Rattle.reading.specs.Tables.{NotNegative}
 use Rattle.row_search.specs.Rows.{RisesBy, Rising}
 use Rattle.row_search.proofs.Rising.{rises-rising}
 use Rattle.reading.proofs.Values.{value-most, value-size, value-slope}
-use Rattle.tables.specs.Figures.{InTable, figureOf, figureAt, figureHalf, latitudeAt, latitudeHalf, centralMeridian, falseEasting, firstLatitude, y0Of, y0At, hAt, aAt, bAt, cAt, dAt, kAt}
+use Rattle.tables.specs.Figures.{figureOf, figureAt, figureHalf, latitudeAt, latitudeHalf, centralMeridian, falseEasting, firstLatitude, y0Of, y0At, hAt, aAt, bAt, cAt, dAt, kAt}
 use Rattle.tables.proofs.Parts.{step-above}
 
 -- a size is not negative
@@ -58,10 +57,6 @@ module _ (s : List ℕ) (z : checkOf s .number ≡ 0) where
   -- the latitude rows stand a minute apart
   pub minute-step : oneMinute ≡ stepOf s latitude
   minute-step = sym (step-usual s (contents-none s z) latitude (lit≤ tt) (lit≤ tt))
-
-  -- a latitude's position has that step
-  pub minute-known : (at : At) → InTable s latitude at → oneMinute ≡ at .step
-  minute-known at there = minute-step ∙ sym (there .step)
 
   pub latitude-is : (number t : ℕ) → figureAt s latitude number t ≡ latitudeAt s number t
   latitude-is number t = rw minute-step

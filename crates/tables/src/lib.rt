@@ -18,9 +18,6 @@ ghost use Rattle.reading.specs.Tables.{offsetOf, NotNegative};
 ghost use Rattle.row_search.specs.Rows.{lastNotAbove};
 ghost use Rattle.tables.specs.Figures.{InTable, figureOf, figureAt, figureHalf, centralMeridian, falseEasting, firstLatitude, originOf, y0Of, y0At, y0Half, hAt, hHalf, vAt, vHalf, aAt, aHalf, bAt, bHalf, cAt, cHalf, pAt, pHalf, mAt, mHalf, dAt, dHalf, kAt, kHalf};
 
-// A minute of latitude, as the step of a position.
-const MINUTE: u32 = 60_000;
-
 // What a sheet's points are measured from: the latitude of row 0 and the central meridian, in 0.001″, and the false easting C, in 0.01 ft.
 pub struct Origin {
     pub first_latitude: i64,
@@ -37,32 +34,22 @@ fn figure_of(s: &[u8], place: Place, kind: usize, number: usize, i: usize) -> i6
     words::unsigned_word(b, entries::width_of(kind) * i + number) as i64
 }
 
-// The figure of a column of the kind at a position in its table. The step is the position's: where it is given as a constant, the compiler divides by it with a product.
-fn value_by(s: &[u8], place: Place, kind: usize, number: usize, step: u32, at: At) -> Rounded
-    requires { ⌜ Placed (now s) kind place × (number < widthOf kind) × (step ≡ at .step) × InTable (now s) kind at ⌝ }
+// The figure of a column of the kind at a position in its table.
+fn value_by(s: &[u8], place: Place, kind: usize, number: usize, at: At) -> Rounded
+    requires { ⌜ Placed (now s) kind place × (number < widthOf kind) × InTable (now s) kind at ⌝ }
     ensures { λ r. ⌜ (r .value ≡ figureAt (now (s .entry)) kind number (offsetOf at)) × (r .half ≡ figureHalf (now (s .entry)) kind number (offsetOf at)) ⌝ }
 {
     let b = contents::body(s, place, kind);
-    let known = At {
-        row: at.row,
-        past: at.past,
-        step,
-    };
-    reading::past_row(b, entries::width_of(kind), number, known)
+    reading::past_row(b, entries::width_of(kind), number, at)
 }
 
 // The same of a column in which no figure is negative.
-fn size_by(s: &[u8], place: Place, kind: usize, number: usize, step: u32, at: At) -> RoundedSize
-    requires { ⌜ Placed (now s) kind place × (number < widthOf kind) × (step ≡ at .step) × InTable (now s) kind at × NotNegative (figureOf (now s) kind number) (rowsOf (now s) kind) ⌝ }
+fn size_by(s: &[u8], place: Place, kind: usize, number: usize, at: At) -> RoundedSize
+    requires { ⌜ Placed (now s) kind place × (number < widthOf kind) × InTable (now s) kind at × NotNegative (figureOf (now s) kind number) (rowsOf (now s) kind) ⌝ }
     ensures { λ r. ⌜ (pos (r .value) ≡ figureAt (now (s .entry)) kind number (offsetOf at)) × (r .half ≡ figureHalf (now (s .entry)) kind number (offsetOf at)) ⌝ }
 {
     let b = contents::body(s, place, kind);
-    let known = At {
-        row: at.row,
-        past: at.past,
-        step,
-    };
-    reading::size_past_row(b, entries::width_of(kind), number, known)
+    reading::size_past_row(b, entries::width_of(kind), number, at)
 }
 
 // A size as a number with a sign.
@@ -153,7 +140,7 @@ pub fn y0_at(s: &[u8], p: Places, at: At) -> Rounded
     requires { ⌜ KnownToPass (now s) p × InTable (now s) latitude at ⌝ }
     ensures { λ r. ⌜ (r .value ≡ y0At (now (s .entry)) (offsetOf at)) × (natAbs (r .value) ≤ 999_999_999) × (r .half ≡ y0Half (now (s .entry)) (offsetOf at)) ⌝ }
 {
-    signed(size_by(s, p.latitude, entries::LATITUDE, 1, MINUTE, at))
+    signed(size_by(s, p.latitude, entries::LATITUDE, 1, at))
 }
 
 // H, in 0.000001.
@@ -161,7 +148,7 @@ pub fn h_at(s: &[u8], p: Places, at: At) -> RoundedSize
     requires { ⌜ KnownToPass (now s) p × InTable (now s) latitude at ⌝ }
     ensures { λ r. ⌜ (r .value ≡ hAt (now (s .entry)) (offsetOf at)) × (30_000_000 ≤ r .value) × (r .value ≤ mostH) × (r .half ≡ hHalf (now (s .entry)) (offsetOf at)) ⌝ }
 {
-    size_by(s, p.latitude, entries::LATITUDE, 3, MINUTE, at)
+    size_by(s, p.latitude, entries::LATITUDE, 3, at)
 }
 
 // V, in 0.000001.
@@ -169,7 +156,7 @@ pub fn v_at(s: &[u8], p: Places, at: At) -> RoundedSize
     requires { ⌜ KnownToPass (now s) p × InTable (now s) latitude at ⌝ }
     ensures { λ r. ⌜ (r .value ≡ vAt (now (s .entry)) (offsetOf at)) × (r .value ≤ mostV) × (r .half ≡ vHalf (now (s .entry)) (offsetOf at)) ⌝ }
 {
-    size_by(s, p.latitude, entries::LATITUDE, 5, MINUTE, at)
+    size_by(s, p.latitude, entries::LATITUDE, 5, at)
 }
 
 // a, in 0.001.
@@ -177,44 +164,23 @@ pub fn a_at(s: &[u8], p: Places, at: At) -> Rounded
     requires { ⌜ KnownToPass (now s) p × InTable (now s) latitude at ⌝ }
     ensures { λ r. ⌜ (r .value ≡ aAt (now (s .entry)) (offsetOf at)) × (natAbs (r .value) ≤ mostA) × (r .half ≡ aHalf (now (s .entry)) (offsetOf at)) ⌝ }
 {
-    value_by(s, p.latitude, entries::LATITUDE, 7, MINUTE, at)
+    value_by(s, p.latitude, entries::LATITUDE, 7, at)
 }
 
-// b in 0.001 and c in 0.001 ft, at one size of L.
-pub struct Longitude {
-    pub b: Rounded,
-    pub c: Rounded,
-}
-
-// b and c at a size of L. Here and below the usual step is tested for, and given as a constant. Each function has its own test: one function with a test for all of them would be too
-// large to be compiled in where it is called, and there the step would be no constant.
-pub fn longitude_at(s: &[u8], p: Places, at: At) -> Longitude
-    requires { ⌜ KnownToPass (now s) p × InTable (now s) longitude at ⌝ }
-    ensures { λ r. ⌜ (r .b .value ≡ bAt (now (s .entry)) (offsetOf at)) × (natAbs (r .b .value) ≤ mostB) × (r .b .half ≡ bHalf (now (s .entry)) (offsetOf at)) × (r .c .value ≡ cAt (now (s .entry)) (offsetOf at)) × (natAbs (r .c .value) ≤ mostC) × (r .c .half ≡ cHalf (now (s .entry)) (offsetOf at)) ⌝ }
-{
-    let usual = entries::usual_step(entries::LONGITUDE) as u32;
-    if at.step == usual {
-        return Longitude {
-            c: value_by(s, p.longitude, entries::LONGITUDE, 1, usual, at),
-            b: value_by(s, p.longitude, entries::LONGITUDE, 0, usual, at),
-        };
-    }
-    Longitude {
-        c: value_by(s, p.longitude, entries::LONGITUDE, 1, at.step, at),
-        b: value_by(s, p.longitude, entries::LONGITUDE, 0, at.step, at),
-    }
-}
-
-// b alone, in 0.001.
+// b at a size of L, in 0.001.
 pub fn b_at(s: &[u8], p: Places, at: At) -> Rounded
     requires { ⌜ KnownToPass (now s) p × InTable (now s) longitude at ⌝ }
     ensures { λ r. ⌜ (r .value ≡ bAt (now (s .entry)) (offsetOf at)) × (natAbs (r .value) ≤ mostB) × (r .half ≡ bHalf (now (s .entry)) (offsetOf at)) ⌝ }
 {
-    let usual = entries::usual_step(entries::LONGITUDE) as u32;
-    if at.step == usual {
-        return value_by(s, p.longitude, entries::LONGITUDE, 0, usual, at);
-    }
-    value_by(s, p.longitude, entries::LONGITUDE, 0, at.step, at)
+    value_by(s, p.longitude, entries::LONGITUDE, 0, at)
+}
+
+// c, in 0.001 ft.
+pub fn c_at(s: &[u8], p: Places, at: At) -> Rounded
+    requires { ⌜ KnownToPass (now s) p × InTable (now s) longitude at ⌝ }
+    ensures { λ r. ⌜ (r .value ≡ cAt (now (s .entry)) (offsetOf at)) × (natAbs (r .value) ≤ mostC) × (r .half ≡ cHalf (now (s .entry)) (offsetOf at)) ⌝ }
+{
+    value_by(s, p.longitude, entries::LONGITUDE, 1, at)
 }
 
 // P at y, in 0.00001.
@@ -222,11 +188,7 @@ pub fn p_at(s: &[u8], p: Places, at: At) -> RoundedSize
     requires { ⌜ KnownToPass (now s) p × InTable (now s) northing at ⌝ }
     ensures { λ r. ⌜ (r .value ≡ pAt (now (s .entry)) (offsetOf at)) × (r .value ≤ mostP) × (r .half ≡ pHalf (now (s .entry)) (offsetOf at)) ⌝ }
 {
-    let usual = entries::usual_step(entries::NORTHING) as u32;
-    if at.step == usual {
-        return size_by(s, p.northing, entries::NORTHING, 0, usual, at);
-    }
-    size_by(s, p.northing, entries::NORTHING, 0, at.step, at)
+    size_by(s, p.northing, entries::NORTHING, 0, at)
 }
 
 // M at y, in 10⁻⁷.
@@ -234,11 +196,7 @@ pub fn m_at(s: &[u8], p: Places, at: At) -> RoundedSize
     requires { ⌜ KnownToPass (now s) p × InTable (now s) northing at ⌝ }
     ensures { λ r. ⌜ (r .value ≡ mAt (now (s .entry)) (offsetOf at)) × (r .value ≤ mostM) × (r .half ≡ mHalf (now (s .entry)) (offsetOf at)) ⌝ }
 {
-    let usual = entries::usual_step(entries::NORTHING) as u32;
-    if at.step == usual {
-        return size_by(s, p.northing, entries::NORTHING, 1, usual, at);
-    }
-    size_by(s, p.northing, entries::NORTHING, 1, at.step, at)
+    size_by(s, p.northing, entries::NORTHING, 1, at)
 }
 
 // d at a size of x′, in 0.01 ft.
@@ -246,11 +204,7 @@ pub fn d_at(s: &[u8], p: Places, at: At) -> Rounded
     requires { ⌜ KnownToPass (now s) p × InTable (now s) easting at ⌝ }
     ensures { λ r. ⌜ (r .value ≡ dAt (now (s .entry)) (offsetOf at)) × (natAbs (r .value) ≤ mostD) × (r .half ≡ dHalf (now (s .entry)) (offsetOf at)) ⌝ }
 {
-    let usual = entries::usual_step(entries::EASTING) as u32;
-    if at.step == usual {
-        return value_by(s, p.easting, entries::EASTING, 0, usual, at);
-    }
-    value_by(s, p.easting, entries::EASTING, 0, at.step, at)
+    value_by(s, p.easting, entries::EASTING, 0, at)
 }
 
 // k at a size of x′, in 10⁻⁷.
@@ -258,9 +212,5 @@ pub fn k_at(s: &[u8], p: Places, at: At) -> Rounded
     requires { ⌜ KnownToPass (now s) p × InTable (now s) scale at ⌝ }
     ensures { λ r. ⌜ (r .value ≡ kAt (now (s .entry)) (offsetOf at)) × (natAbs (r .value) ≤ 10_010_000) × (r .half ≡ kHalf (now (s .entry)) (offsetOf at)) ⌝ }
 {
-    let usual = entries::usual_step(entries::SCALE) as u32;
-    if at.step == usual {
-        return signed(size_by(s, p.scale, entries::SCALE, 0, usual, at));
-    }
-    signed(size_by(s, p.scale, entries::SCALE, 0, at.step, at))
+    signed(size_by(s, p.scale, entries::SCALE, 0, at))
 }

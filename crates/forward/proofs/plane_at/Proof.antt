@@ -8,14 +8,15 @@ use mir.Val.{toZ, ofZ}
 use Rattle.rounding.proofs.Bits.{bits-is, bits-below}
 use Rattle.entries.specs.Layout.{longitude}
 use Rattle.entries.specs.Entries.{Within}
-use Rattle.sheet_check.proofs.Known.{latitude-placed, longitude-placed}
+use Rattle.sheet_check.proofs.Known.{latitude-placed}
 use Rattle.reading.specs.Tables.{offsetOf}
 use Rattle.tables.specs.Figures.{falseEasting}
 use Rattle.tables.proofs.Answers.{size-is, size-fits}
+use Rattle.tables.proofs.Ranges.{minute-step}
 use Rattle.tables.proofs.Origins.{easting-held}
 use Rattle.extent.specs.Extent.{fromFirst, lOf}
 use Rattle.extent.proofs.Reach.{latitude-reach, latitude-small, latitude-within, longitude-within}
-use Rattle.forward.proofs.Eastings.{plane-worked, taken-workable}
+use Rattle.forward.proofs.Eastings.{plane-worked, workable-as-read}
 use borrow.Author.Needs.{needs}
 use Rattle.forward.proofs.plane_at.Statement.{statement}
 use Rattle.forward.proofs.plane_at.Tie as tie
@@ -39,19 +40,16 @@ l-is c =
 size-within : (c : tie.After-size) → Within (now (c .before .before .before .before .before .args .s)) longitude (c .size .result)
 size-within c = rw (c .size .ensures, l-is (c .before .before)) (longitude-within _ _ (c .before .before .before .before .before .pre .3))
 
--- the positions, where the figures were taken, and the false easting
+-- where the figures were taken, and the false easting
 module _ (c : tie.After-taken-at) where
   abbrev ls : tie.After-l-of
-  ls = c .before .before .before .before
+  ls = c .before .before .before
 
   abbrev start : tie.Start
   start = ls .before .before .before
 
-  north-is : offsetOf (c .before .before .before .position .result) ≡ natAbs (fromFirst (now (start .args .s)) (start .args .latitude))
-  north-is = c .before .before .before .position .ensures .1 ∙ t-is (ls .before)
-
-  west-is : offsetOf (c .before .position2 .result) ≡ natAbs (toZ w64 (ofZ w64 (ls .l-of .result)))
-  west-is = c .before .position2 .ensures .1 ∙ c .before .before .size .ensures
+  north-is : offsetOf (c .before .before .position .result) ≡ natAbs (fromFirst (now (start .args .s)) (start .args .latitude))
+  north-is = c .before .before .position .ensures .1 ∙ t-is (ls .before)
 
   easting-is : toZ w64 (ofZ w64 (start .args .o .«false_easting»)) ≡ falseEasting (now (start .args .s))
   easting-is = easting-held _ (start .pre .0 .passes) _ (start .pre .1) .is
@@ -60,13 +58,12 @@ worked-requires : tie.Need-worked-requires
 worked-requires c κs =
     let taken = c .before in
     let p = start taken .pre in
-    rw (taken .taken-at .ensures, north-is taken, west-is taken, easting-is taken, l-is (ls taken))
-    (taken-workable _ (p .0 .passes) _ (latitude-within _ (p .0 .passes) _ (p .2)) _ (longitude-within _ _ (p .3)))
+    workable-as-read _ (p .0 .passes) _ (latitude-within _ (p .0 .passes) _ (p .2)) _ (longitude-within _ _ (p .3)) (taken .taken-at .ensures) (north-is taken) (taken .before .size .ensures) (easting-is taken) (l-is (ls taken))
 
 returns : tie.Need-returns
 returns c =
     let taken = c .before .before in
-    c .worked .ensures ∙ plane-worked _ _ _ (taken .taken-at .ensures) (north-is taken) (west-is taken) (easting-is taken) (l-is (ls taken))
+    c .worked .ensures ∙ plane-worked _ _ _ (taken .taken-at .ensures) (north-is taken) (taken .before .size .ensures) (easting-is taken) (l-is (ls taken))
 
 pub plane-at-spec : {M : Type 1} → statement M
 plane-at-spec =
@@ -75,9 +72,8 @@ plane-at-spec =
     (λ c κs. (c .before .pre .0 .passes, c .before .pre .1))
     (λ c. size-fits (c .from-first .ok) (distance-is c) (latitude-small _ (c .before .before .pre .0 .passes) _ (c .before .before .pre .2)) tt)
     (λ c κs. (c .before .before .pre .0 .passes, c .before .before .pre .1))
-    (λ c κs. let p = c .before .before .before .pre in (latitude-placed _ _ (p .0), lit≤ tt, rw (t-is (c .before)) (latitude-within _ (p .0 .passes) _ (p .2))))
+    (λ c κs. let p = c .before .before .before .pre in (latitude-placed _ _ (p .0), lit≤ tt, minute-step _ (p .0 .passes), rw (t-is (c .before)) (latitude-within _ (p .0 .passes) _ (p .2))))
     (λ c κs. bits-below (c .before .l-of .result) (c .before .l-of .ok) (c .before .l-of .ensures .1) tt)
-    (λ c κs. (longitude-placed _ _ (c .before .before .before .before .before .pre .0), lit≤ tt, size-within c))
-    (λ c κs. search needs)
+    (λ c κs. (c .before .before .before .before .before .pre .0, c .before .position .ensures .0, size-within c))
     worked-requires
     returns)

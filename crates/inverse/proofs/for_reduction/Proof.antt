@@ -1,35 +1,53 @@
 -- `inverse::for_reduction` meets its contract. Assumes nothing.
-use mathlib.Core.Path.{ap, _∙_}
-use lib.Dec.{lit≤}
-use lib.IntN.{natAbs}
-use Rattle.rounding.proofs.Sizes.{size-nonNeg}
-use Rattle.rounding.proofs.Holds.{unsigned-fits}
+use mathlib.Core.Path.{_≡_, ap, _∙_}
+use lib.Dec.{eqb}
+use borrow.Author.Tests.{eqb-true}
+use mir.Syntax.{w32}
+use mir.Val.{toZ, ofZ}
+use Rattle.rounding.proofs.Tests.{both}
 use Rattle.sheet_check.proofs.Known.{northing-placed, easting-placed}
-use Rattle.extent.proofs.Reach.{northing-reach, northing-within}
-use Rattle.extent.proofs.Points.{wide, wide-fits}
-use Rattle.inverse.proofs.Longitudes.{reduction-taken}
+use Rattle.tables.proofs.Parts.{found-step, place-step}
+use Rattle.inverse.specs.Inverse.{forReduction}
 use borrow.Author.Needs.{needs}
 use Rattle.inverse.proofs.for_reduction.Statement.{statement}
 use Rattle.inverse.proofs.for_reduction.Tie as tie
 
+y-is : (c : tie.Start) → toZ w32 (ofZ w32 (c .args .y)) ≡ c .args .y
+y-is c = search needs
+
+-- the steps, where both are the usual ones
+found : (c : tie.Then1)
+    → let east = c .before .before .before in
+    let p = east .before .before .before .args .p in (p .northing .step ≡ east .before .usual-step .result) × (p .easting .step ≡ east .usual-step2 .result)
+found c =
+    let east = c .before .before .before in
+    let p = east .before .before .before .args .p in
+    let tests = both (eqb (p .northing .step) (east .before .usual-step .result)) (eqb (p .easting .step) (east .usual-step2 .result)) (c .if1 .taken) in
+    (eqb-true _ _ (tests .0), eqb-true _ _ (tests .1))
+
+reduction-by-requires : tie.Need-reduction-by-requires
+reduction-by-requires c κs =
+    let north = found c .0 in
+    let east = found c .1 in
+    search (northing-placed, easting-placed, found-step, north, east, needs)
+
 returns : tie.Need-returns
 returns c =
-    let read = c .before in
-    let east = read .before in
-    let north = east .before in
-    let y = north .position .ensures .1 ∙ ap natAbs (wide (north .before .before .fits .y) .is) in
-    let p = read .p-at .ensures in
-    let d = c .d-at .ensures in
-    (reduction-taken _ _ _ _ y (east .position2 .ensures .1) (p .0) (p .2) (d .0) (d .2), p .1, d .1)
+    let r = c .reduction-by .ensures in
+    (r .0 ∙ ap (forReduction _ _) (y-is (c .before .before .before .before .before .before .before)), r .1, r .2)
+
+returns-2 : tie.Need-returns-2
+returns-2 c =
+    let r = c .reduction-by2 .ensures in
+    (r .0 ∙ ap (forReduction _ _) (y-is (c .before .before .before .before .before .before .before)), r .1, r .2)
 
 pub for-reduction-spec : {M : Type 1} → statement M
 for-reduction-spec =
     tie.close
     (tie.spec
-    (λ c. wide-fits (c .before .fits .y))
-    (λ c. unsigned-fits (wide (c .before .fits .y)) (size-nonNeg (northing-reach _ _ (c .before .pre .2))) tt)
-    (λ c κs. let p = c .before .pre in (northing-placed _ _ (p .0), lit≤ tt, rw (wide (c .before .fits .y) .is) (northing-within _ _ (p .2))))
-    (λ c κs. let p = c .before .before .pre in (easting-placed _ _ (p .0), lit≤ tt, p .1))
     (λ c κs. search needs)
     (λ c κs. search needs)
-    returns)
+    reduction-by-requires
+    returns
+    (λ c κs. search (northing-placed, easting-placed, place-step, needs))
+    returns-2)

@@ -12,7 +12,6 @@ use Rattle.refusals.proofs.Ladders.{stop, go, kept}
 use Rattle.steps.specs.Steps.{approximateLHalf}
 use Rattle.entries.specs.Layout.{easting, latitude}
 use Rattle.entries.specs.Entries.{Within}
-use Rattle.sheet_check.proofs.Known.{longitude-placed}
 use Rattle.reading.specs.Tables.{offsetOf}
 use Rattle.tables.specs.Figures.{hAt}
 use Rattle.tables.proofs.Parts.{table-within}
@@ -63,15 +62,11 @@ approximate-there : (c : tie.Else1)
     sizeKnown (now (args .s)) (pos (approximateOf (now (args .s)) (natAbs (args .xp)) (offsetOf (args .at)))) ≡ true
 approximate-there c = kept _ _ (first-known (c .before)) (c .if1 .left)
 
--- b, where it was read, and the size of L
-west-is : (c : tie.After-position)
-    → let args = start (c .before .before .before .before) .args in offsetOf (c .position .result) ≡ approximateOf (now (args .s)) (natAbs (args .xp)) (offsetOf (args .at))
-west-is c = c .position .ensures .1 ∙ approximate-is (c .before .before .before .before)
-
+-- the size of L
 size-of-requires : tie.Need-size-of-requires
 size-of-requires c κs =
-    let west = c .before in
-    let approximate = west .before .before .before .before in
+    let passed = c .before in
+    let approximate = passed .before .before .before in
     let taken = approximate .before .taken-at .ensures in
     let from = start approximate in
     let z = from .pre .0 .passes in
@@ -82,23 +77,23 @@ size-of-requires c κs =
       b .1,
       taken .1,
       taken .2,
-      l-asked _ z _ _ (x-within from) (t-within from) (approximate-there (west .before)) _ (taken .0) x (west-is west) (b .0),
+      l-asked _ z _ _ (x-within from) (t-within from) (approximate-there passed) _ (taken .0) x (approximate-is approximate) (b .0),
     )
 
 module _ (c : tie.After-size-of) where
   abbrev worked : tie.After-approximate-of
-  worked = c .before .before .before .before .before .before
+  worked = c .before .before .before .before .before
 
   size-bits : toZ w64 (ofZ w64 (c .size-of .result .value)) ≡ c .size-of .result .value
   size-bits = search needs
 
   size-is : let args = start worked .args in c .size-of .result .value ≡ sizeOf (now (args .s)) (natAbs (args .xp)) (offsetOf (args .at))
-  size-is = c .size-of .ensures .0 ∙ size-halves _ _ _ _ (worked .before .taken-at .ensures .0) (x-is (worked .before .before)) (west-is (c .before .before)) (c .before .b-at .result) (c .before .b-at .ensures .0)
+  size-is = c .size-of .ensures .0 ∙ size-halves _ _ _ _ (worked .before .taken-at .ensures .0) (x-is (worked .before .before)) (approximate-is worked) (c .before .b-at .result) (c .before .b-at .ensures .0)
 
   half-is : let args = start worked .args in c .size-of .result .half ≡ sizeHalf (now (args .s)) (natAbs (args .xp)) (offsetOf (args .at))
   half-is =
       c .size-of .ensures .1
-      ∙ size-half-halves _ _ _ _ (worked .before .taken-at .ensures .0) (x-is (worked .before .before)) (west-is (c .before .before)) (c .before .b-at .result) (c .before .b-at .ensures .0) (approximate-half worked) (c .before .b-at .ensures .2)
+      ∙ size-half-halves _ _ _ _ (worked .before .taken-at .ensures .0) (x-is (worked .before .before)) (approximate-is worked) (c .before .b-at .result) (c .before .b-at .ensures .0) (approximate-half worked) (c .before .b-at .ensures .2)
 
 second-known : (c : tie.After-size-known2)
     → let args = start (worked (c .before .before)) .args in c .size-known2 .result ≡ sizeKnown (now (args .s)) (sizeOf (now (args .s)) (natAbs (args .xp)) (offsetOf (args .at)))
@@ -111,14 +106,14 @@ returns c = stop _ _ _ _ (first-known (c .before)) (c .if1 .taken)
 returns-2 : tie.Need-returns-2
 unfolding fromDistance
 returns-2 c =
-    let passed = c .before .before .before .before .before .before in
+    let passed = c .before .before .before .before .before in
     go _ _ _ _ _ (first-known (passed .before)) (passed .if1 .left) (stop _ _ _ _ (second-known (c .before)) (c .if2 .taken))
 
 returns-3 : tie.Need-returns-3
 unfolding fromDistance
 returns-3 c =
     let sized = c .before .before .before .before in
-    let passed = sized .before .before .before in
+    let passed = sized .before .before in
     go _ _ _ _ _ (first-known (passed .before)) (passed .if1 .left)
     (go _ _ _ _ _ (second-known (c .before .before)) (c .before .if2 .left)
     (c .geographic-at .ensures ∙ rw (xp-is (start (worked sized)))))
@@ -140,8 +135,7 @@ from-distance-spec =
     (λ c. search needs)
     (λ c κs. search needs)
     returns
-    (λ c κs. let approximate = c .before .before .before in (longitude-placed _ _ (start approximate .pre .0), lit≤ tt, rw (approximate-is approximate) (size-within _ _ (approximate-there c))))
-    (λ c κs. search needs)
+    (λ c κs. let approximate = c .before .before .before in (start approximate .pre .0, rw (approximate-is approximate) (size-within _ _ (approximate-there c))))
     size-of-requires
     (λ c κs. search needs)
     returns-2

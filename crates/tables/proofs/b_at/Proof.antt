@@ -1,5 +1,4 @@
 -- `tables::b_at` meets its contract. Assumes nothing.
-use mathlib.Core.Path.{sym}
 use Rattle.tables.specs.Figures.{bAt, bHalf}
 use Rattle.tables.proofs.Parts.{table-within}
 use Rattle.tables.proofs.Ranges.{b-between}
@@ -11,24 +10,9 @@ use Rattle.tables.proofs.b_at.Tie as tie
 returns : tie.Need-returns
 unfolding bAt bHalf
 returns c =
-    let p = c .before .before .before .before .before .pre in
+    let p = c .before .before .pre in
     let e = c .value-by .ensures .0 in
     (e, rw e (b-between _ (p .0 .passes) _ (table-within _ _ _ (p .1))), c .value-by .ensures .1)
 
-returns-2 : tie.Need-returns-2
-unfolding bAt bHalf
-returns-2 c =
-    let p = c .before .before .before .before .before .pre in
-    let e = c .value-by2 .ensures .0 in
-    (e, rw e (b-between _ (p .0 .passes) _ (table-within _ _ _ (p .1))), c .value-by2 .ensures .1)
-
 pub b-at-spec : {M : Type 1} → statement M
-b-at-spec =
-    tie.close
-    (tie.spec
-    (λ c κs. search needs)
-    (λ c. search needs)
-    (λ c κs. search (longitude-placed, sym, needs))
-    returns
-    (λ c κs. search (longitude-placed, needs))
-    returns-2)
+b-at-spec = tie.close (tie.spec (λ c κs. search (longitude-placed, needs)) returns)

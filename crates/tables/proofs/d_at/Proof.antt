@@ -1,5 +1,4 @@
 -- `tables::d_at` meets its contract. Assumes nothing.
-use mathlib.Core.Path.{sym}
 use Rattle.tables.specs.Figures.{dAt, dHalf}
 use Rattle.tables.proofs.Parts.{table-within}
 use Rattle.tables.proofs.Ranges.{d-between}
@@ -11,24 +10,9 @@ use Rattle.tables.proofs.d_at.Tie as tie
 returns : tie.Need-returns
 unfolding dAt dHalf
 returns c =
-    let p = c .before .before .before .before .before .pre in
+    let p = c .before .before .pre in
     let e = c .value-by .ensures .0 in
     (e, rw e (d-between _ (p .0 .passes) _ (table-within _ _ _ (p .1))), c .value-by .ensures .1)
 
-returns-2 : tie.Need-returns-2
-unfolding dAt dHalf
-returns-2 c =
-    let p = c .before .before .before .before .before .pre in
-    let e = c .value-by2 .ensures .0 in
-    (e, rw e (d-between _ (p .0 .passes) _ (table-within _ _ _ (p .1))), c .value-by2 .ensures .1)
-
 pub d-at-spec : {M : Type 1} → statement M
-d-at-spec =
-    tie.close
-    (tie.spec
-    (λ c κs. search needs)
-    (λ c. search needs)
-    (λ c κs. search (easting-placed, sym, needs))
-    returns
-    (λ c κs. search (easting-placed, needs))
-    returns-2)
+d-at-spec = tie.close (tie.spec (λ c κs. search (easting-placed, needs)) returns)

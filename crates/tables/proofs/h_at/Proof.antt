@@ -2,7 +2,7 @@
 use mathlib.Core.Path.{_∙_}
 use Rattle.tables.specs.Figures.{hAt, hHalf}
 use Rattle.tables.proofs.Parts.{table-within}
-use Rattle.tables.proofs.Ranges.{minute-known, latitude-is, latitude-half-is, h-between, h-rows}
+use Rattle.tables.proofs.Ranges.{latitude-is, latitude-half-is, h-between, h-rows}
 use Rattle.tables.proofs.Answers.{read-is, read-low, read-high}
 use Rattle.sheet_check.proofs.Known.{latitude-placed}
 use borrow.Author.Needs.{needs}
@@ -18,4 +18,4 @@ returns c =
     (read-is e h, read-low e h, read-high e h, c .size-by .ensures .1 ∙ latitude-half-is _ (p .0 .passes) 3 _)
 
 pub h-at-spec : {M : Type 1} → statement M
-h-at-spec = tie.close (tie.spec (λ c κs. search (latitude-placed, minute-known, h-rows, needs)) returns)
+h-at-spec = tie.close (tie.spec (λ c κs. search (latitude-placed, h-rows, needs)) returns)

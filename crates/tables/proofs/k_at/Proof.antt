@@ -1,5 +1,5 @@
 -- `tables::k_at` meets its contract. Assumes nothing.
-use mathlib.Core.Path.{sym, _∙_}
+use mathlib.Core.Path.{_∙_}
 use Rattle.tables.specs.Figures.{kAt, kHalf}
 use Rattle.tables.proofs.Parts.{table-within}
 use Rattle.tables.proofs.Ranges.{k-between, k-rows}
@@ -12,40 +12,16 @@ use Rattle.tables.proofs.k_at.Tie as tie
 signed-requires : tie.Need-signed-requires
 unfolding kAt
 signed-requires c κs =
-    let p = c .before .before .before .before .before .pre in
+    let p = c .before .before .pre in
     read-small (c .size-by .ensures .0) (k-between _ (p .0 .passes) _ (table-within _ _ _ (p .1))) tt
-
-signed-requires-2 : tie.Need-signed-requires-2
-unfolding kAt
-signed-requires-2 c κs =
-    let p = c .before .before .before .before .before .pre in
-    read-small (c .size-by2 .ensures .0) (k-between _ (p .0 .passes) _ (table-within _ _ _ (p .1))) tt
 
 returns : tie.Need-returns
 unfolding kAt kHalf
 returns c =
-    let p = c .before .before .before .before .before .before .pre in
+    let p = c .before .before .before .pre in
     let read = c .before .size-by .ensures in
     let e = c .signed .ensures .0 ∙ read .0 in
     (e, rw e (k-between _ (p .0 .passes) _ (table-within _ _ _ (p .1)) .high), c .signed .ensures .1 ∙ read .1)
 
-returns-2 : tie.Need-returns-2
-unfolding kAt kHalf
-returns-2 c =
-    let p = c .before .before .before .before .before .before .pre in
-    let read = c .before .size-by2 .ensures in
-    let e = c .signed2 .ensures .0 ∙ read .0 in
-    (e, rw e (k-between _ (p .0 .passes) _ (table-within _ _ _ (p .1)) .high), c .signed2 .ensures .1 ∙ read .1)
-
 pub k-at-spec : {M : Type 1} → statement M
-k-at-spec =
-    tie.close
-    (tie.spec
-    (λ c κs. search needs)
-    (λ c. search needs)
-    (λ c κs. search (scale-placed, k-rows, sym, needs))
-    signed-requires
-    returns
-    (λ c κs. search (scale-placed, k-rows, needs))
-    signed-requires-2
-    returns-2)
+k-at-spec = tie.close (tie.spec (λ c κs. search (scale-placed, k-rows, needs)) signed-requires returns)

@@ -1,5 +1,4 @@
 -- `tables::m_at` meets its contract. Assumes nothing.
-use mathlib.Core.Path.{sym}
 use Rattle.tables.specs.Figures.{mAt, mHalf}
 use Rattle.tables.proofs.Parts.{table-within}
 use Rattle.tables.proofs.Ranges.{m-between, m-rows}
@@ -12,26 +11,10 @@ use Rattle.tables.proofs.m_at.Tie as tie
 returns : tie.Need-returns
 unfolding mAt mHalf
 returns c =
-    let p = c .before .before .before .before .before .pre in
+    let p = c .before .before .pre in
     let h = m-between _ (p .0 .passes) _ (table-within _ _ _ (p .1)) in
     let e = c .size-by .ensures .0 in
     (read-is e h, read-high e h, c .size-by .ensures .1)
 
-returns-2 : tie.Need-returns-2
-unfolding mAt mHalf
-returns-2 c =
-    let p = c .before .before .before .before .before .pre in
-    let h = m-between _ (p .0 .passes) _ (table-within _ _ _ (p .1)) in
-    let e = c .size-by2 .ensures .0 in
-    (read-is e h, read-high e h, c .size-by2 .ensures .1)
-
 pub m-at-spec : {M : Type 1} → statement M
-m-at-spec =
-    tie.close
-    (tie.spec
-    (λ c κs. search needs)
-    (λ c. search needs)
-    (λ c κs. search (northing-placed, m-rows, sym, needs))
-    returns
-    (λ c κs. search (northing-placed, m-rows, needs))
-    returns-2)
+m-at-spec = tie.close (tie.spec (λ c κs. search (northing-placed, m-rows, needs)) returns)

@@ -1,11 +1,11 @@
 -- `tables::size_by` meets its contract. Assumes nothing.
-use Rattle.tables.proofs.Parts.{at-asks, this-sign, next-sign, at-stepped, value-is, half-is}
+use Rattle.tables.proofs.Parts.{at-asks, this-sign, next-sign, value-is, half-is}
 use borrow.Author.Needs.{needs}
 use Rattle.tables.proofs.size_by.Statement.{statement}
 use Rattle.tables.proofs.size_by.Tie as tie
 
 size-past-row-requires : tie.Need-size-past-row-requires
-size-past-row-requires c κs = search (at-asks, this-sign, next-sign, at-stepped, needs)
+size-past-row-requires c κs = search (at-asks, this-sign, next-sign, needs)
 
 returns : tie.Need-returns
 returns c = search (value-is, half-is, needs)

@@ -2,7 +2,7 @@
 use mathlib.Core.Path.{_∙_}
 use Rattle.tables.specs.Figures.{vAt, vHalf}
 use Rattle.tables.proofs.Parts.{table-within}
-use Rattle.tables.proofs.Ranges.{minute-known, latitude-is, latitude-half-is, v-between, v-rows}
+use Rattle.tables.proofs.Ranges.{latitude-is, latitude-half-is, v-between, v-rows}
 use Rattle.tables.proofs.Answers.{read-is, read-high}
 use Rattle.sheet_check.proofs.Known.{latitude-placed}
 use borrow.Author.Needs.{needs}
@@ -18,4 +18,4 @@ returns c =
     (read-is e h, read-high e h, c .size-by .ensures .1 ∙ latitude-half-is _ (p .0 .passes) 5 _)
 
 pub v-at-spec : {M : Type 1} → statement M
-v-at-spec = tie.close (tie.spec (λ c κs. search (latitude-placed, minute-known, v-rows, needs)) returns)
+v-at-spec = tie.close (tie.spec (λ c κs. search (latitude-placed, v-rows, needs)) returns)

@@ -2,7 +2,7 @@
 use mathlib.Core.Path.{_∙_}
 use Rattle.tables.specs.Figures.{y0At, y0Half}
 use Rattle.tables.proofs.Parts.{table-within}
-use Rattle.tables.proofs.Ranges.{minute-known, latitude-is, latitude-half-is, y0-between, y0-rows}
+use Rattle.tables.proofs.Ranges.{latitude-is, latitude-half-is, y0-between, y0-rows}
 use Rattle.tables.proofs.Answers.{read-small}
 use Rattle.sheet_check.proofs.Known.{latitude-placed}
 use borrow.Author.Needs.{needs}
@@ -24,4 +24,4 @@ returns c =
     (e, rw e (y0-between _ (p .0 .passes) _ (table-within _ _ _ (p .1)) .high), c .signed .ensures .1 ∙ read .1 ∙ latitude-half-is _ (p .0 .passes) 1 _)
 
 pub y0-at-spec : {M : Type 1} → statement M
-y0-at-spec = tie.close (tie.spec (λ c κs. search (latitude-placed, minute-known, y0-rows, needs)) signed-requires returns)
+y0-at-spec = tie.close (tie.spec (λ c κs. search (latitude-placed, y0-rows, needs)) signed-requires returns)
