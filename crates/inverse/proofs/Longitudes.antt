@@ -34,16 +34,17 @@ pub reduced-half-halves : (s : List ℕ) (x : ℕ) (y : ℤ) → reducedByHalf (
 unfolding reducedByHalf forReduction reducedHalf
 reduced-half-halves s x y = refl
 
--- f are the figures at t from row 0, and m is the size of x′
-module _ (s : List ℕ) (x t : ℕ) (f : Taken) {m : ℕ} (r : f ≡ takenAt s t) (g : m ≡ x) where
-  pub approximate-halves : approximateBy (f .h .value) m ≡ approximateOf s x t
-  unfolding approximateBy takenAt approximateOf
+-- h is H at t from row 0, and m is the size of x′
+module _ (s : List ℕ) (x t : ℕ) {h m : ℕ} (r : h ≡ hAt s t) (g : m ≡ x) where
+  pub approximate-halves : approximateBy h m ≡ approximateOf s x t
+  unfolding approximateBy approximateOf
   approximate-halves = rw (r, g)
 
-  pub approximate-half-halves : approximateLHalf m (f .h .value) ≡ approximateLHalf x (hAt s t)
-  unfolding takenAt
+  pub approximate-half-halves : approximateLHalf m h ≡ approximateLHalf x (hAt s t)
   approximate-half-halves = rw (r, g)
 
+-- f are the figures there
+module _ (s : List ℕ) (x t : ℕ) (f : Taken) {m : ℕ} (r : f ≡ takenAt s t) (g : m ≡ x) where
   -- b is read at approximate L, n
   module _ {n : ℕ} (e : n ≡ approximateOf s x t) (b : Rounded) (k : b .value ≡ bAt s n) where
     pub size-halves : sizeBy f (b .value) m ≡ sizeOf s x t

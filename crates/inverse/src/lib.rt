@@ -16,7 +16,7 @@ ghost use Rattle.entries.specs.Layout.{latitude, longitude, northing, easting, 
 ghost use Rattle.entries.specs.Entries.{rowsOf, stepOf, Within};
 ghost use Rattle.sheet_check.specs.Check.{checkOf, KnownToPass};
 ghost use Rattle.reading.specs.Tables.{offsetOf};
-ghost use Rattle.tables.specs.Figures.{InTable, originOf, bAt, bHalf};
+ghost use Rattle.tables.specs.Figures.{InTable, originOf, bAt, bHalf, pAt, pHalf, dAt, dHalf};
 ghost use Rattle.extent.specs.Extent.{sizeKnown, eastingKnown, northingKnown, reducedKnown};
 ghost use Rattle.inverse.specs.Inverse.{reducedNorthing, reducedHalf, rowOf, distanceOf, distanceHalf, sizeOf, sizeHalf, geographicAt, fromDistance, fromReduced, inverseOf, forReduction, reducedBy, reducedByHalf, secondsBy, secondsByHalf, takenAt, approximateBy, sizeBy, sizeByHalf};
 
@@ -34,31 +34,43 @@ pub struct ForReduction {
     pub d: Rounded,
 }
 
-// Reading: P and d of a point within their tables, at the steps that the two tables have.
-fn reduction_by(s: &[u8], p: Places, x: u64, y: i32, north: u64, east: u64) -> ForReduction
-    requires { ⌜ KnownToPass (now s) p × Within (now s) easting x × (northingKnown (now s) y ≡ true) × (north ≡ stepOf (now s) northing) × (east ≡ stepOf (now s) easting) ⌝ }
-    ensures { λ r. ⌜ (r ≡ forReduction (now (s .entry)) x y) × (r .p .value ≤ mostP) × (natAbs (r .d .value) ≤ mostD) ⌝ }
+// Reading: P at y, at the step that the table has.
+fn p_by(s: &[u8], p: Places, step: u64, y: u64) -> RoundedSize
+    requires { ⌜ KnownToPass (now s) p × (step ≡ stepOf (now s) northing) × Within (now s) northing y ⌝ }
+    ensures { λ r. ⌜ (r .value ≡ pAt (now (s .entry)) y) × (r .value ≤ mostP) × (r .half ≡ pHalf (now (s .entry)) y) ⌝ }
 {
-    let at = extent::position(s, p.northing, entries::NORTHING, north, (y as i64) as u64);
-    let beside = extent::position(s, p.easting, entries::EASTING, east, x);
-    ForReduction {
-        p: tables::p_at(s, p, at),
-        d: tables::d_at(s, p, beside),
-    }
+    let at = extent::position(s, p.northing, entries::NORTHING, step, y);
+    tables::p_at(s, p, at)
 }
 
-// The same at the tables' own steps. The usual ones are tested for, and given as constants; positions and readings stand together behind the test, or the compiler would make the two
-// ways one.
+// Reading: d at a size of x′, at the step that the table has.
+fn d_by(s: &[u8], p: Places, step: u64, size: u64) -> Rounded
+    requires { ⌜ KnownToPass (now s) p × (step ≡ stepOf (now s) easting) × Within (now s) easting size ⌝ }
+    ensures { λ r. ⌜ (r .value ≡ dAt (now (s .entry)) size) × (natAbs (r .value) ≤ mostD) × (r .half ≡ dHalf (now (s .entry)) size) ⌝ }
+{
+    let at = extent::position(s, p.easting, entries::EASTING, step, size);
+    tables::d_at(s, p, at)
+}
+
+// Reading: P and d of a point within their tables. The usual steps are tested for, and given as constants. Position and reading stand together behind the test, or the compiler would
+// make the two ways one; and in a function for each figure, or it would not be compiled in.
 pub fn for_reduction(s: &[u8], p: Places, x: u64, y: i32) -> ForReduction
     requires { ⌜ KnownToPass (now s) p × Within (now s) easting x × (northingKnown (now s) y ≡ true) ⌝ }
     ensures { λ r. ⌜ (r ≡ forReduction (now (s .entry)) x y) × (r .p .value ≤ mostP) × (natAbs (r .d .value) ≤ mostD) ⌝ }
 {
+    let up = (y as i64) as u64;
     let north = entries::usual_step(entries::NORTHING);
     let east = entries::usual_step(entries::EASTING);
     if (p.northing.step == north) & (p.easting.step == east) {
-        return reduction_by(s, p, x, y, north, east);
+        return ForReduction {
+            p: p_by(s, p, north, up),
+            d: d_by(s, p, east, x),
+        };
     }
-    reduction_by(s, p, x, y, p.northing.step, p.easting.step)
+    ForReduction {
+        p: p_by(s, p, p.northing.step, up),
+        d: d_by(s, p, p.easting.step, x),
+    }
 }
 
 // Working: the reduced northing, in 0.01 ft.
@@ -188,8 +200,7 @@ fn from_distance(s: &[u8], p: Places, o: Origin, xp: i64, at: At, met: bool) -> 
     ensures { λ r. ⌜ r ≡ fromDistance (now (s .entry)) xp (offsetOf at) met ⌝ }
 {
     let x = rounding::size(xp);
-    let taken = taken_at(s, p, at);
-    let approximate = approximate_of(taken.h, x);
+    let approximate = approximate_of(tables::h_at(s, p, at), x);
     if !extent::size_known(s, p, approximate.value as i64) {
         return Geographic {
             number: 11,
@@ -198,8 +209,8 @@ fn from_distance(s: &[u8], p: Places, o: Origin, xp: i64, at: At, met: bool) -> 
             half: false,
         };
     }
-    let b = b_at(s, p, approximate.value);
-    let size = size_of(taken, b, x, approximate.half);
+    let b = b_at(s, p, approximate.value); // before H and a: a word that is read before the test for b's step and used after it is put together byte by byte
+    let size = size_of(taken_at(s, p, at), b, x, approximate.half);
     if !extent::size_known(s, p, size.value) {
         return Geographic {
             number: 11,

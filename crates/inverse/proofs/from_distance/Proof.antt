@@ -44,10 +44,10 @@ module _ (c : tie.After-approximate-of) where
   start = c .before .before .before .before
 
   approximate-is : let args = start .args in c .approximate-of .result .value ≡ approximateOf (now (args .s)) (natAbs (args .xp)) (offsetOf (args .at))
-  approximate-is = c .approximate-of .ensures .0 ∙ approximate-halves _ _ _ _ (c .before .taken-at .ensures .0) (x-is (c .before .before))
+  approximate-is = c .approximate-of .ensures .0 ∙ approximate-halves _ _ _ (c .before .h-at .ensures .0) (x-is (c .before .before))
 
   approximate-half : let args = start .args in c .approximate-of .result .half ≡ approximateLHalf (natAbs (args .xp)) (hAt (now (args .s)) (offsetOf (args .at)))
-  approximate-half = c .approximate-of .ensures .2 ∙ approximate-half-halves _ _ _ _ (c .before .taken-at .ensures .0) (x-is (c .before .before))
+  approximate-half = c .approximate-of .ensures .2 ∙ approximate-half-halves _ _ _ (c .before .h-at .ensures .0) (x-is (c .before .before))
 
 -- its test
 first-known : (c : tie.After-size-known)
@@ -65,13 +65,13 @@ approximate-there c = kept _ _ (first-known (c .before)) (c .if1 .left)
 -- the size of L
 size-of-requires : tie.Need-size-of-requires
 size-of-requires c κs =
-    let passed = c .before in
+    let passed = c .before .before in
     let approximate = passed .before .before .before in
-    let taken = approximate .before .taken-at .ensures in
+    let taken = c .taken-at .ensures in
     let from = start approximate in
     let z = from .pre .0 .passes in
     let x = x-is (approximate .before .before) in
-    let b = c .b-at .ensures in (
+    let b = c .before .b-at .ensures in (
       rw x (x-small _ z _ _ (x-within from) (t-within from)),
       taken .3,
       b .1,
@@ -82,18 +82,18 @@ size-of-requires c κs =
 
 module _ (c : tie.After-size-of) where
   abbrev worked : tie.After-approximate-of
-  worked = c .before .before .before .before .before
+  worked = c .before .before .before .before .before .before
 
   size-bits : toZ w64 (ofZ w64 (c .size-of .result .value)) ≡ c .size-of .result .value
   size-bits = search needs
 
   size-is : let args = start worked .args in c .size-of .result .value ≡ sizeOf (now (args .s)) (natAbs (args .xp)) (offsetOf (args .at))
-  size-is = c .size-of .ensures .0 ∙ size-halves _ _ _ _ (worked .before .taken-at .ensures .0) (x-is (worked .before .before)) (approximate-is worked) (c .before .b-at .result) (c .before .b-at .ensures .0)
+  size-is = c .size-of .ensures .0 ∙ size-halves _ _ _ _ (c .before .taken-at .ensures .0) (x-is (worked .before .before)) (approximate-is worked) (c .before .before .b-at .result) (c .before .before .b-at .ensures .0)
 
   half-is : let args = start worked .args in c .size-of .result .half ≡ sizeHalf (now (args .s)) (natAbs (args .xp)) (offsetOf (args .at))
   half-is =
       c .size-of .ensures .1
-      ∙ size-half-halves _ _ _ _ (worked .before .taken-at .ensures .0) (x-is (worked .before .before)) (approximate-is worked) (c .before .b-at .result) (c .before .b-at .ensures .0) (approximate-half worked) (c .before .b-at .ensures .2)
+      ∙ size-half-halves _ _ _ _ (c .before .taken-at .ensures .0) (x-is (worked .before .before)) (approximate-is worked) (c .before .before .b-at .result) (c .before .before .b-at .ensures .0) (approximate-half worked) (c .before .before .b-at .ensures .2)
 
 second-known : (c : tie.After-size-known2)
     → let args = start (worked (c .before .before)) .args in c .size-known2 .result ≡ sizeKnown (now (args .s)) (sizeOf (now (args .s)) (natAbs (args .xp)) (offsetOf (args .at)))
@@ -106,14 +106,14 @@ returns c = stop _ _ _ _ (first-known (c .before)) (c .if1 .taken)
 returns-2 : tie.Need-returns-2
 unfolding fromDistance
 returns-2 c =
-    let passed = c .before .before .before .before .before in
+    let passed = c .before .before .before .before .before .before in
     go _ _ _ _ _ (first-known (passed .before)) (passed .if1 .left) (stop _ _ _ _ (second-known (c .before)) (c .if2 .taken))
 
 returns-3 : tie.Need-returns-3
 unfolding fromDistance
 returns-3 c =
     let sized = c .before .before .before .before in
-    let passed = sized .before .before in
+    let passed = sized .before .before .before in
     go _ _ _ _ _ (first-known (passed .before)) (passed .if1 .left)
     (go _ _ _ _ _ (second-known (c .before .before)) (c .before .if2 .left)
     (c .geographic-at .ensures ∙ rw (xp-is (start (worked sized)))))
@@ -131,13 +131,14 @@ from-distance-spec =
     (tie.spec
     (λ c κs. let from = c .before in size-small (xp-is from) (le-trans (x-within from .most) (le-trans (easting-span _ (from .pre .0 .passes)) (lit≤ tt))))
     (λ c κs. search needs)
-    (λ c κs. let from = c .before .before .before in (rw (x-is (c .before)) (x-small _ (from .pre .0 .passes) _ _ (x-within from) (t-within from)), c .taken-at .ensures .1, c .taken-at .ensures .2))
+    (λ c κs. let from = c .before .before .before in (rw (x-is (c .before)) (x-small _ (from .pre .0 .passes) _ _ (x-within from) (t-within from)), c .h-at .ensures .1, c .h-at .ensures .2))
     (λ c. search needs)
     (λ c κs. search needs)
     returns
     (λ c κs. let approximate = c .before .before .before in (start approximate .pre .0, rw (approximate-is approximate) (size-within _ _ (approximate-there c))))
-    size-of-requires
     (λ c κs. search needs)
+    size-of-requires
+    (λ c κs. start (worked (c .before)) .pre .0)
     returns-2
     geographic-at-requires
     returns-3)
