@@ -2,6 +2,7 @@
 use native.Mathlib.Nat.{le-trans}
 use lib.Dec.{lit≤}
 use Rattle.sheet_check.proofs.Known.{longitude-placed}
+use Rattle.tables.proofs.Parts.{place-step}
 use Rattle.extent.proofs.Reach.{longitude-span}
 use borrow.Author.Needs.{needs}
 use Rattle.survey_samples.proofs.show_longitude.Statement.{statement}
@@ -14,12 +15,14 @@ pub show-longitude-spec : {M : Type 1} → statement M
 show-longitude-spec =
     tie.close
     (tie.spec
-    (λ c κs. (longitude-placed _ _ (c .before .pre .0), lit≤ tt, c .before .pre .1))
+    (λ c κs. let placed = longitude-placed _ _ (c .before .pre .0) in (placed, lit≤ tt, place-step _ _ _ placed, c .before .pre .1))
     (λ c. search needs)
     q-of-requires
     (λ c κs. search needs)
     (λ c. search needs)
     (λ c κs. search needs)
+    (λ c κs. search needs)
     (λ c. search needs)
+    (λ c κs. search needs)
     (λ c κs. search needs)
     (λ c. search needs))

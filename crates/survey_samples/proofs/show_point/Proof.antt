@@ -5,6 +5,7 @@ use denote.Ref.{now}
 use mir.Syntax.{w32, w64}
 use mir.Val.{toZ, ofZ}
 use Rattle.sheet_check.proofs.Known.{latitude-placed}
+use Rattle.tables.proofs.Ranges.{minute-step}
 use Rattle.tables.proofs.Answers.{size-is, size-fits}
 use Rattle.extent.specs.Extent.{fromFirst, lOf}
 use Rattle.extent.proofs.Reach.{latitude-reach, latitude-small, latitude-within, longitude-within}
@@ -39,7 +40,7 @@ position-requires : tie.Need-position-requires
 position-requires c κs =
     let p = c .before .before .before .before .pre in
     let t = size-is (c .before .from-first .ok) (distance-is (c .before)) (latitude-reach _ _ (p .1)) in
-    (latitude-placed _ _ (p .0), lit≤ tt, rw t (latitude-within _ (p .0 .passes) _ (p .1)))
+    (latitude-placed _ _ (p .0), lit≤ tt, minute-step _ (p .0 .passes), rw t (latitude-within _ (p .0 .passes) _ (p .1)))
 
 size-requires : tie.Need-size-requires
 size-requires c κs = let l = c .before .before .before .before .l-of in bits-below (l .result) (l .ok) (l .ensures .1) tt
