@@ -1,7 +1,7 @@
 // Times the library beside the plain C of the same rules, on the sheets that its arguments name. The two run in turn, so that what else the machine does falls on
 // both. First it compares their answers, on each sheet and on many with a few words changed. It prints a line for each operation and sheet, with a tab between:
 // operation, sheet, what a time is of, the library's and the plain C's nanoseconds, each the least of all turns, the ratio of these, the library's to the plain C's,
-// the middle one of the turns' own ratios, the goal ("-" where none was set), and what was compared.
+// the middle one of the turns' own ratios, the goal, and what was compared.
 #include <stdio.h>
 #include <stdlib.h>
 #include <string.h>
@@ -32,8 +32,8 @@ uint32_t bannerscale_correct(uint8_t *sheet, size_t length, int32_t minute, int3
 
 enum { CHANGED = 200000, CORRECTED = 200000, TURNS = 301, CALLS = 1000, CORRECTIONS = 10000, ROOM = 65536, POINTS = 100000, MOST = 4096, BATCHES = 2000, AGAIN = 25 };
 
-// A time ratio of at most this: the check's and the conversions' goal, and the batch's, which was set as a speed of at least 0.8 of the plain C's.
-static const char GOAL[] = "1.25", NONE[] = "-";
+// A time ratio of at most this: the goal of the check, of forward, convergence and the batch, whose goal was set as a speed of at least 0.8 of the plain C's; the inverse's; the correction's.
+static const char GOAL[] = "1.25", INVERSE_GOAL[] = "1.15", CORRECTION_GOAL[] = "1.3";
 
 static int same(verdict a, verdict b) { return a.number == b.number && a.kind == b.kind && a.row == b.row; }
 
@@ -140,7 +140,7 @@ static int compare(const char *name, const char *file, over *ours, over *plain, 
     }
     times t;
     for (int k = 0; k < TURNS; k++) t.ours[k] = time_points(ours, sheet, length, points), t.plain[k] = time_points(plain, sheet, length, points);
-    say_times(name, file, "point", &t, GOAL);
+    say_times(name, file, "point", &t, strcmp(name, "inverse") ? GOAL : INVERSE_GOAL);
     printf("%d of %d points answered differently (%d refused, %d met a half)\n", differ, POINTS, refused, halves);
     return differ;
 }
@@ -290,7 +290,7 @@ static int corrections(const char *file, const uint8_t *sheet, size_t length) {
     times t;
     for (int k = 0; k < TURNS; k++) t.ours[k] = time_correct(bannerscale_correct, ours, length, both), t.plain[k] = time_correct(plain_correct, plain, length, both);
     differ += memcmp(ours, sheet, length) != 0 || memcmp(plain, sheet, length) != 0;
-    say_times("correction", file, "call", &t, NONE);
+    say_times("correction", file, "call", &t, CORRECTION_GOAL);
     printf("%d of %d corrections answered or written differently (by number", differ, CORRECTED);
     for (int n = 0, first = 1; n < 19; n++)
         if (seen[n]) printf("%s %d: %d", first ? "" : ",", n, seen[n]), first = 0;
