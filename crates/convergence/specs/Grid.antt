@@ -36,7 +36,7 @@ gridOf s x y =
     (need (northingKnown s y) (noGrid 13)
     (gridAt s (xPrime s x) y))
 
--- ---- the same in two halves: the figures as they are read, and the work on figures alone
+-- ---- the same in two parts: reading the figures, and working on figures alone
 unfoldable pub takenAt : List ℕ → ℤ → ℤ → Taken
 takenAt s xp y = record { m = record { value = mAt s (natAbs y); half = mHalf s (natAbs y) }; k = record { value = kAt s (natAbs xp); half = kHalf s (natAbs xp) } }
 

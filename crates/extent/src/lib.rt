@@ -22,8 +22,8 @@ fn within(s: &[u8], place: Place, kind: usize, z: i64) -> bool
     reading::within_rows(place.rows, place.step, z)
 }
 
-// The position of an offset in the kind's table, worked once for all that is read there. `place` is its body's, and the step the table's: where it is given as a constant, the compiler
-// divides by it with a product.
+// The position of an offset in the kind's table, worked once for all that is read there. `place` is the place of its body, and `step` its step. Where the
+// caller gives the step as a constant, the compiler turns the division into a product.
 pub fn position(s: &[u8], place: Place, kind: usize, step: u64, offset: u64) -> At
     requires { ⌜ Placed (now s) kind place × (2 ≤ leastRows kind) × (step ≡ stepOf (now s) kind) × Within (now s) kind offset ⌝ }
     ensures { λ r. ⌜ InTable (now (s .entry)) kind r × (offsetOf r ≡ offset) ⌝ }

@@ -56,7 +56,7 @@ forwardOf s north west =
     (need (longitudeKnown s west) (noPlane 11)
     (planeAt s north west))
 
--- ---- the same in two halves: the figures as they are read, and the work on figures alone, which other ways to the figures share
+-- ---- the same in two parts: reading the figures, and working on figures alone, so that figures read in another way are worked by the same definitions
 -- "from s take b, c."
 unfoldable pub longitudeAt : List ℕ → ℕ → Longitude
 longitudeAt s size = record { b = record { value = bAt s size; half = bHalf s size }; c = record { value = cAt s size; half = cHalf s size } }
@@ -72,7 +72,7 @@ takenAt s t size = record {
   c = longitudeAt s size .c;
 }
 
--- x and y of the figures f, with their marks. `easting` is C.
+-- x and y of the figures f, with their marks. `easting` is the false easting C, not the kind.
 unfoldable pub workedX : Taken → ℤ → ℤ → ℤ
 workedX f easting l = withSign l (sizeOfX (f .h .value) (natAbs l) (f .a .value) (f .b .value)) +ℤ easting
 

@@ -53,7 +53,8 @@ fn longitude_by(s: &[u8], p: Places, step: u64, size: u64) -> Longitude
     }
 }
 
-// The same at the table's own step. The usual one is tested for, and given as a constant; position and readings stand together behind the test, or the compiler would make the two ways one.
+// The same, whatever the table's step is. If it is the usual one, it is handed on as a constant; position and readings stand together behind the test, or the compiler would make the
+// two ways one.
 fn longitude_at(s: &[u8], p: Places, size: u64) -> Longitude
     requires { ⌜ KnownToPass (now s) p × Within (now s) longitude size ⌝ }
     ensures { λ r. ⌜ r ≡ longitudeAt (now (s .entry)) size ⌝ }

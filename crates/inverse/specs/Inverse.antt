@@ -98,8 +98,9 @@ inverseOf s x y =
     (need (northingKnown s y) (noGeographic 13)
     (fromReduced s (xPrime s x) (reducedNorthing s (natAbs (xPrime s x)) y) (reducedHalf s (natAbs (xPrime s x)) y)))
 
--- ---- the same in halves: the figures as they are read, and the work on figures alone, which other ways to the figures share. There are three of each, since approximate L decides
--- which b is read. That the work on a sheet's figures gives the definitions above, `Longitudes` and `Distances` prove.
+-- ---- the same in parts: reading the figures, and working on figures alone, so that figures read in another way are worked by the same definitions. The work has four steps, and each
+-- needs figures that the one before decides: P and d give the reduced northing; its row's two y0 the seconds; H and a there approximate L; b there the size of L. y0 and b are
+-- read as above. That the work on a sheet's figures gives the definitions above, `Longitudes` and `Distances` prove.
 -- "P is read at y, d at |x′|."
 unfoldable pub forReduction : List ℕ → ℕ → ℤ → ForReduction
 forReduction s x y = record { p = record { value = pAt s (natAbs y); half = pHalf s (natAbs y) }; d = record { value = dAt s x; half = dHalf s x } }
@@ -128,5 +129,6 @@ approximateBy h x = approximateL x h * 1_000
 unfoldable pub sizeBy : Taken → ℤ → ℕ → ℤ
 sizeBy f b x = sizeOfL x (f .a .value) b (f .h .value)
 
+-- `met`: approximate L was rounded from a half.
 unfoldable pub sizeByHalf : Taken → Rounded → ℕ → Bool → Bool
 sizeByHalf f b x met = f .h .half || f .a .half || met || b .half || sizeOfLHalf x (f .a .value) (b .value) (f .h .value)

@@ -109,7 +109,7 @@ pub fn seconds_between(y0: i64, next: i64, reduced: i64) -> RoundedSize
     steps::seconds(entries::ONE_MINUTE, above(y0, reduced), above(y0, next))
 }
 
-// The seconds past its row, or past the one before where its row is the last. There they are the whole step and no half.
+// The seconds of the reduced northing past its row. Where that row is the last, they are counted from the row before: the whole minute, and no half.
 fn seconds_past(s: &[u8], p: Places, reduced: i64, row: usize) -> RoundedSize
     requires { ⌜ KnownToPass (now s) p × (reducedKnown (now s) reduced ≡ true) × (row ≡ min (rowOf (now s) reduced) (rowsOf (now s) latitude - 2)) ⌝ }
     ensures { λ r. ⌜ (row * oneMinute + r .value ≡ distanceOf (now (s .entry)) reduced) × (r .value ≤ oneMinute) × (r .half ≡ distanceHalf (now (s .entry)) reduced) ⌝ }
@@ -168,7 +168,7 @@ pub fn approximate_of(h: RoundedSize, x: u64) -> RoundedSize
     }
 }
 
-// Working: the size of L, in 0.001″, with b read at approximate L. `met`, here and below: some rounding before met a half.
+// Working: the size of L, in 0.001″, with b read at approximate L. `met`: approximate L was rounded from a half.
 pub fn size_of(f: Taken, b: Rounded, x: u64, met: bool) -> Rounded
     requires { ⌜ (x ≤ mostX) × (natAbs (f .a .value) ≤ mostA) × (natAbs (b .value) ≤ mostB) × (30_000_000 ≤ f .h .value) × (f .h .value ≤ mostH) × T (nonNeg (pos (x * 10_000) -ℤ f .a .value *ℤ b .value)) ⌝ }
     ensures { λ r. ⌜ (r .value ≡ sizeBy f (b .value) x) × (r .half ≡ sizeByHalf f b x met) ⌝ }
@@ -180,7 +180,8 @@ pub fn size_of(f: Taken, b: Rounded, x: u64, met: bool) -> Rounded
     }
 }
 
-// The point on the earth, of x′, the latitude's position and the size of L, which is within its table. Its numbers are measured from the sheet's origin, and no table is read.
+// The point on the earth, of x′, the latitude's position and the size of L, which is within its table. Its numbers are measured from the sheet's origin, and no table
+// is read. `met`, here and below: some rounding before met a half.
 fn geographic_at(s: &[u8], o: Origin, xp: i64, at: At, size: Rounded, met: bool) -> Geographic
     requires { ⌜ (checkOf (now s) .number ≡ 0) × (o ≡ originOf (now s)) × InTable (now s) latitude at × (size .value ≡ sizeOf (now s) (natAbs xp) (offsetOf at)) × (sizeKnown (now s) (size .value) ≡ true) × (size .half ≡ sizeHalf (now s) (natAbs xp) (offsetOf at)) ⌝ }
     ensures { λ r. ⌜ r ≡ geographicAt (now (s .entry)) xp (offsetOf at) met ⌝ }

@@ -1,4 +1,4 @@
-// The judging of a correction of one latitude row, by the check's own rules: 16, 6, 8, or 0 where it is accepted.
+// The judging of a correction of one latitude row: 16, then 6 and 8 by the check's own rules, or 0 where it is accepted.
 use rules::Figures;
 ghost use mathlib.Core.Path.{_≡_};
 ghost use mathlib.Core.Bool.{true};

@@ -35,6 +35,7 @@ valueHalf f step offset = pastRowHalf f (offset / step) (offset % step) step
 abbrev pub offsetOf : At → ℕ
 offsetOf at = at .row * at .step + at .past
 
+-- A step above 0 and not too wide, and at most the whole step past the row.
 pub record Stepped (at : At) : Type 0 where
   pub past : at .past ≤ at .step
   pub some : 0 < at .step

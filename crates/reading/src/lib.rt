@@ -11,7 +11,7 @@ ghost use Rattle.rounding.specs.Ranges.{mostCount, mostStep};
 ghost use Rattle.reading.specs.Tables.{column, pastRow, pastRowHalf, withinRows, offsetOf, Stepped, Among};
 
 // A position in a table: so much past a row that has a next, up to the whole step between the two. The last row is a whole step past the one before it, so that there is always a next.
-// Step and distance have 32 bits, as a word has: so products with a word are narrow ones, which some processors work faster.
+// `past` and `step` have 32 bits, as a word has: so products with a word are narrow ones, which some processors work faster.
 pub struct At {
     pub row: usize,
     pub past: u32,

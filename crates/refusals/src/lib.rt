@@ -1,4 +1,4 @@
-// What refuses, sheet or line: the tests of a number, and a fault with its place. The order of refusals and the first fault are in specs/.
+// What every refusal is made of, of sheets and of lines: the tests of a number, and a fault with its place. The order of refusals and the first fault are in specs/.
 ghost use mathlib.Core.Path.{_≡_};
 ghost use Rattle.refusals.specs.Tests.{inRange, sameAs};
 

@@ -75,7 +75,7 @@ mostScale = 1_000
 abbrev pub mostChange : ℕ
 mostChange = 1_000_000
 
--- what `nearest` divides, and by what: so that twice the first and the second together fit an unsigned number of 64 bits
+-- what `nearest` divides, and by what: so that the first fits a signed number of 64 bits, and twice the second an unsigned one
 abbrev pub mostNumerator : ℕ
 mostNumerator = 8_000_000_000_000_000_000
 

@@ -1,4 +1,4 @@
--- The faults of a row of the small bodies, all but latitude, kind by kind: first from the row's own figures, then of row i, counted from 0, of the body b: the part
+-- The faults of a row of the small bodies, all but latitude, kind by kind: first from the row's figures (in kind 3 also the next row's), then of row i, counted from 0, of the body b: the part
 -- of the sheet that holds its n rows.
 -- Each fault is a number, 0 for none: 6 "a figure outside its range"; 8 "a row difference outside its bounds". "row 0 is 0" is a range too, so 6.
 -- The figures stand in the order of the table of kinds, with its units and ranges; in the quotes b is a figure of kind 3. The quotes leave out the steps,

@@ -72,7 +72,7 @@ pub fn scale_at(b: &[u8], i: usize) -> i32
     words::word(b, entries::SCALE_WIDTH * i)
 }
 
-// Whether x is 0, where it is of the first row.
+// Whether x is 0, or its row is not the first.
 fn zero_where(first: bool, x: i32) -> bool
     ensures { λ r. ⌜ r ≡ zeroWhere first x ⌝ }
 {

@@ -51,7 +51,7 @@ unfoldable pub reductionHalf : ℕ → ℕ → ℤ → Bool
 reductionHalf p x d = onHalf (exactReduction p x d) 1_000_000_000_000_000
 
 -- "seconds = 60(reduced − y0)/(y0 next − y0), to 0.001": span is the 60 in 0.001″, past is reduced − y0 and gap is y0 next − y0, both in 0.01 ft.
--- It comes to the whole span where past is just short of the gap: what that means for the minute is the inverse's to say.
+-- It comes to the whole span where past is the gap, or just short of it: what that means for the minute is the inverse's to say.
 abbrev pub exactSeconds : ℕ → ℕ → ℕ
 exactSeconds span past = span * past
 

@@ -109,7 +109,7 @@ pub fn y0_of(s: &[u8], p: Places, i: usize) -> i64
     figure_of(s, p.latitude, entries::LATITUDE, 1, i)
 }
 
-// Of the first n latitude rows, the last with y0 not above z, which is not below the first. The search starts by a rise halfway between the bounds.
+// Of the first n latitude rows, the last with y0 not above z. z is not below the first y0. The first look takes every row to rise by the middle of the two bounds.
 fn row_among(s: &[u8], p: Places, n: usize, z: i64) -> usize
     requires { ⌜ KnownToPass (now s) p × (0 < n) × (n ≤ rowsOf (now s) latitude) × (leZ (y0Of (now s) 0) z ≡ true) × (natAbs z < 2 ^ 62) ⌝ }
     ensures { λ r. ⌜ (r ≡ lastNotAbove (y0Of (now (s .entry))) n z) × (r < n) ⌝ }

@@ -35,8 +35,8 @@ putEntries f s kinds rows (suc n) = putEntry f (putEntries f s kinds rows n) n (
 unfoldable pub putContents : Form → List ℕ → ℕ → List ℕ → List ℕ → List ℕ
 putContents f s word kinds rows = putEntries f (putCount s 0 word) kinds rows (f .kinds)
 
--- What may be written: a kind and rows for each entry, and no more rows than "At most 65,532 bytes" can hold, so that every start is a size that a word holds. Whether the sheet then
--- passes is not asked here.
+-- What may be written: a kind and rows for each entry, and in no entry more rows than a sheet may have bytes, a wide bound by which every start fits a word. Whether the sheet then
+-- passes is not asked here, nor whether word 0 names the form f: that is for the caller to see to.
 pub record Writable (f : Form) (kinds rows : List ℕ) : Type 0 where
   pub all-kinds : length kinds ≡ f .kinds
   pub all-rows : length rows ≡ f .kinds
