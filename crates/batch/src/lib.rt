@@ -1,5 +1,7 @@
 // Many points at once, geographic to plane, over lent memory: pairs of latitude and longitude are read, three words a point are written. The sheet is checked once, its
 // places are worked once, and its origin is read once.
+#![tactic(auto)]
+
 ghost use Rattle.std.specs.Prelude.{◌≡◌, true, ◌∷◌, [], ◌+◌, ◌*◌, ◌≤◌, ◌<◌, pos, length};
 ghost use Rattle.std.proofs.lemmas.List.Edits.{sets};
 ghost use Rattle.sheet_check.specs.Check.{KnownToPass};

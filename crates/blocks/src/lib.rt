@@ -1,4 +1,6 @@
 // The lines of the points program's input, answered as they come.
+#![tactic(auto)]
+
 ghost use Rattle.std.specs.Prelude.{◌≡◌, ◌+◌, ◌*◌, ◌≤◌, length, take};
 ghost use Rattle.std.proofs.Math.Seq.{slice};
 ghost use Rattle.sheet_check.specs.Check.{KnownToPass};

@@ -1,5 +1,7 @@
 // The library for C: twelve public operations, each under a plain name, its answer in a struct that is laid out as C lays it out. include/bannerscale.h declares it. A slice is a
 // pointer and a length there; a null pointer with length 0 is an empty one.
+#![tactic(auto)]
+
 ghost use Rattle.std.specs.Prelude.{◌≡◌};
 ghost use Rattle.sheet_check.specs.Check.{check_of};
 ghost use Rattle.convert.specs.Conversions.{geographic_to_plane, plane_to_geographic, convergence_and_scale};

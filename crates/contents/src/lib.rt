@@ -1,4 +1,6 @@
 // The contents of a sheet: its length, word 0, the entries and the end, numbers 1 to 5; and each kind's body, once they have no fault.
+#![tactic(auto)]
+
 ghost use Rattle.std.specs.Prelude.{◌≡◌, ◌*◌, ◌<◌, ◌≤◌, length, eqb};
 ghost use Rattle.words.specs.Words.{unsigned_at};
 ghost use Rattle.refusals.specs.Faults.{first_fault};

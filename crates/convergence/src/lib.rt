@@ -1,4 +1,6 @@
 // Convergence and scale at a plane point, on a sheet known to pass, with its places in hand: 12, 13, or Δα and k.
+#![tactic(auto)]
+
 ghost use Rattle.std.specs.Prelude.{◌≡◌, true, ◌≤◌, nat_abs};
 ghost use Rattle.rounding.specs.Ranges.{most_m, most_word};
 ghost use Rattle.entries.specs.Layout.{northing, scale};

@@ -1,4 +1,6 @@
 // The Survey's conversions on any bytes: geographic to plane, plane to geographic, convergence and scale. The bytes are checked first.
+#![tactic(auto)]
+
 ghost use Rattle.std.specs.Prelude.{◌≡◌};
 ghost use Rattle.convert.specs.Conversions.{geographic_to_plane, plane_to_geographic, convergence_and_scale};
 

@@ -1,4 +1,6 @@
 // The correction of one latitude row: judged, then written with the differences that it moves.
+#![tactic(auto)]
+
 ghost use Rattle.std.specs.Prelude.{◌≡◌, true, ◌+◌, ◌*◌, ◌<◌, ◌≤◌, length};
 ghost use Rattle.entries.specs.Layout.{latitude, row_bytes};
 ghost use Rattle.rules.specs.Latitude.{figures_in_range};

@@ -1,6 +1,8 @@
 // The correction program. Standard input: the name of a sheet's file, the name of the file to write, then one line `minute y0 H V a`. Standard output: the correction's number.
 // Where it is 0 the corrected sheet stands, whole, under the second name. The sheet's own file is opened for reading alone. Where a read fails nothing is corrected and
 // no number is printed: the line may be cut.
+#![tactic(auto)]
+
 ghost use Rattle.std.specs.Prelude.{◌≡◌, cond, ◌||◌, ◌++◌, ◌+◌, ◌<◌, ◌≤◌, min, ltb, length, take, drop};
 
 use files::{Line, MOST_NAME};

@@ -1,4 +1,6 @@
 // Floats that are counts: a drawing tool's f64 is a count where it is a whole number within ±2,147,483,647. It is tested by its bits, and not by arithmetic on floats.
+#![tactic(auto)]
+
 ghost use Rattle.std.specs.Prelude.{◌≡◌};
 ghost use Rattle.counts.specs.Whole.{whole_of};
 

@@ -1,4 +1,6 @@
 // Numbers as text: read from a line of bytes, and written, in decimal with an optional minus.
+#![tactic(auto)]
+
 ghost use Rattle.std.specs.Prelude.{◌≡◌, ◌∷◌, [], ◌+◌, ◌-◌, ◌^◌, ◌≤◌, ◌<◌, leb, length, drop, get_or};
 ghost use Rattle.std.proofs.lemmas.List.Edits.{sets};
 ghost use Rattle.decimal.specs.Reading.{digit_of, minus_of, digits_of, signed, number_of};

@@ -1,4 +1,6 @@
 // The latitude rows in which two sheets differ.
+#![tactic(auto)]
+
 ghost use Rattle.std.specs.Prelude.{◌≡◌, ◌+◌, ◌*◌, ◌<◌, ◌≤◌, length};
 ghost use Rattle.entries.specs.Layout.{latitude, row_bytes};
 ghost use Rattle.sheet_check.specs.Check.{KnownToPass};

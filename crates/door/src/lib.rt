@@ -1,5 +1,7 @@
 // The tools' door: drawing tools hand over a point as two f64 counts, and get two f64 counts, with whether some rounding met a half, or a refusal number. Where a float is no count the answer is 15, whatever the
 // sheet: it is not looked at. All else is what the conversions of `convert` answer. A count of 0.01 ft is given in feet besides.
+#![tactic(auto)]
+
 ghost use Rattle.std.specs.Prelude.{◌≡◌};
 ghost use Rattle.door.specs.Door.{counts_of, answer_of, to_plane, to_geographic, to_grid, feet_of};
 

@@ -1,4 +1,6 @@
 // The entries of a sheet's contents: the table of forms and kinds, what an entry says, and where each kind's body lies.
+#![tactic(auto)]
+
 ghost use Rattle.std.specs.Prelude.{◌≡◌, ◌+◌, ◌*◌, ◌<◌, ◌≤◌, length};
 ghost use Rattle.words.specs.Words.{unsigned_at};
 ghost use Rattle.entries.specs.Layout.{Small, HasContents, entry_words, most_kinds, most_first, most_width, first_body, least_bytes, form_named, names_form, width_of, usual_step, least_rows, most_rows};

@@ -1,4 +1,6 @@
 // How far a sheet that passes the check reaches: where a point stands in its tables, and whether that is within their rows, as numbers 10 to 14 ask.
+#![tactic(auto)]
+
 ghost use Rattle.std.specs.Prelude.{◌≡◌, ◌≤◌, nat_abs};
 ghost use Rattle.entries.specs.Layout.{least_rows};
 ghost use Rattle.entries.specs.Entries.{rows_of, step_of, Within};

@@ -1,4 +1,6 @@
 // A line's numbers one after another, each with what has to stand behind it: a blank, or the line's end. `at` goes up to 48, the last place where a fifth number can stand.
+#![tactic(auto)]
+
 ghost use Rattle.std.specs.Prelude.{◌≡◌, ◌+◌, ◌≤◌};
 ghost use Rattle.fields.specs.Fields.{field_at, last_at};
 

@@ -1,5 +1,7 @@
 // What a program takes from the system and hands to it: a named file's bytes and standard input, into lent memory, and standard output. No contract can say what is read or written. The
 // readers say how far they reach; `read_on` and the reads under it also say that what stood before stays. Where the system refuses, standard error says why.
+#![tactic(auto)]
+
 ghost use Rattle.std.specs.Prelude.{◌≡◌, true, ◌++◌, map, ◌+◌, ◌<◌, ◌≤◌, length, take, drop};
 ghost use Rattle.files.specs.Shown.{shown_byte};
 

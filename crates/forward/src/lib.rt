@@ -1,4 +1,6 @@
 // Geographic to plane, on a sheet known to pass, with its places in hand: 10, 11, or x and y.
+#![tactic(auto)]
+
 ghost use Rattle.std.specs.Prelude.{◌≡◌, true, ◌≤◌, nat_abs};
 ghost use Rattle.rounding.specs.Ranges.{most_v, most_c, most_s};
 ghost use Rattle.entries.specs.Layout.{latitude, longitude};

@@ -1,4 +1,6 @@
 // The judging of a correction of one latitude row: 16, then 6 and 8 by the check's own rules, or 0 where it is accepted.
+#![tactic(auto)]
+
 ghost use Rattle.std.specs.Prelude.{◌≡◌, true, ◌*◌, ◌<◌, ◌≤◌, length};
 ghost use Rattle.entries.specs.Layout.{latitude, row_bytes};
 ghost use Rattle.judge.specs.Judge.{bound_before, bound_after, judged_by};

@@ -1,4 +1,6 @@
 // The fault of one latitude row, from the row and the next.
+#![tactic(auto)]
+
 ghost use Rattle.std.specs.Prelude.{◌≡◌, ◌+◌, ◌*◌, ◌≤◌, length};
 ghost use Rattle.entries.specs.Layout.{latitude, row_bytes};
 ghost use Rattle.latitude_rows.specs.Rows.{figures_at, differences_at, row_at, row_in_range, pair_fault, last_fault};

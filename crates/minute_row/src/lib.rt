@@ -1,4 +1,6 @@
 // The latitude row that a minute names: the first row's minute fixes its place, and its own minute must agree.
+#![tactic(auto)]
+
 ghost use Rattle.std.specs.Prelude.{◌≡◌, true, ◌*◌, ◌<◌, ◌≤◌, length};
 ghost use Rattle.entries.specs.Layout.{latitude, row_bytes};
 ghost use Rattle.minute_row.specs.MinuteRow.{from_first_minute, named_row, has_row};

@@ -1,4 +1,6 @@
 // What a line of the points program asks: a form's letter and two numbers.
+#![tactic(auto)]
+
 ghost use Rattle.std.specs.Prelude.{◌≡◌};
 ghost use Rattle.point_line.specs.PointLine.{is_form, line_of};
 

@@ -1,5 +1,7 @@
 // The points program, a filter. Standard input: the name of the sheet's file, then a line for each point. Standard output: the check's answer and, where it is 0, an answer for each line. What has
 // come in is answered before more is read.
+#![tactic(auto)]
+
 ghost use Rattle.std.specs.Prelude.{◌≡◌, ◌*◌, ◌≤◌, ◌<◌, length};
 ghost use Rattle.sheet_check.specs.Check.{KnownToPass};
 ghost use Rattle.lines.specs.Lines.{line_room};

@@ -1,4 +1,6 @@
 // Whether some of the rows in which two sheets differ may touch a line of the points program. On each sheet two minutes alone are asked, however many rows differ.
+#![tactic(auto)]
+
 ghost use Rattle.std.specs.Prelude.{◌≡◌, ◌&&◌, ◌^◌, ◌<◌, ◌≤◌, nat_abs};
 ghost use Rattle.entries.specs.Layout.{latitude};
 ghost use Rattle.entries.specs.Entries.{rows_of};

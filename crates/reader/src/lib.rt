@@ -1,5 +1,7 @@
 // The reader of contents: it keeps the lent sheet and its place, a word number, as one small value. Each function over it takes it apart and leaves the work to a
 // function on the slice and the number.
+#![tactic(auto)]
+
 ghost use Rattle.std.specs.Prelude.{◌≡◌};
 ghost use Rattle.entries.specs.Layout.{first_entry};
 ghost use Rattle.reader.specs.Read.{entry_at, entry_numbered};

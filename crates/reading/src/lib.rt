@@ -1,4 +1,6 @@
 // Reading tables: where an offset lies among the rows, a column's value there, and whether it was rounded from a half.
+#![tactic(auto)]
+
 ghost use Rattle.std.specs.Prelude.{◌≡◌, true, ◌+◌, ◌-◌, ◌*◌, ◌<◌, ◌≤◌, min, length, pos};
 ghost use Rattle.std.specs.Int.Signed.{le_z};
 ghost use Rattle.rounding.specs.Ranges.{most_count, most_step};

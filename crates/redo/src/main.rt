@@ -1,6 +1,8 @@
 // The redo program, a filter: which points to redo after a correction. Standard input: the names of the old sheet's file and of the corrected one's, then a line for each point. Standard output: the
 // check's answer for each sheet and, where both are 0, each line whose answer changes, with both answers, and at the end how many points there were, how many changed and how many the correction may
 // touch. Standard error: how many lines were of no known form. What has come in is compared before more is read.
+#![tactic(auto)]
+
 ghost use Rattle.std.specs.Prelude.{◌≡◌, ◌*◌, ◌≤◌, ◌<◌, length};
 ghost use Rattle.sheet_check.specs.Check.{check_of, KnownToPass};
 ghost use Rattle.compared.specs.Compared.{change_room};

@@ -1,4 +1,6 @@
 // The lines of the redo program's input, compared on two sheets and counted as they come.
+#![tactic(auto)]
+
 ghost use Rattle.std.specs.Prelude.{◌≡◌, ◌+◌, ◌*◌, ◌≤◌, length, take};
 ghost use Rattle.std.proofs.Math.Seq.{slice};
 ghost use Rattle.sheet_check.specs.Check.{KnownToPass};

@@ -1,4 +1,6 @@
 // What every refusal is made of, of sheets and of lines: the tests of a number, and a fault with its place. The order of refusals and the first fault are in specs/.
+#![tactic(auto)]
+
 ghost use Rattle.std.specs.Prelude.{◌≡◌};
 ghost use Rattle.refusals.specs.Tests.{in_range, same_as};
 

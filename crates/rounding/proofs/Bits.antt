@@ -13,7 +13,7 @@ use Rattle.rounding.proofs.Holds.{Holds, held_result, rebounded}
 
 module _ {r : ℤ} (ok : mag r < 2 ^ 63) where
   pub bits_is : to_z w64 (of_z w64 r) ≡ r
-  bits_is = to_z-of_z (sfits_of ok)
+  bits_is = to_z-of_z {w = w64} (sfits_of {w = w64} ok)
 
   -- under the name and the bound of what it is
   pub bits_hold : {v : ℤ} {k : ℕ} → r ≡ v → nat_abs v ≤ k → Holds w64 (of_z w64 r) v k

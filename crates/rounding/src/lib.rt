@@ -1,4 +1,6 @@
 // Exact numbers: sizes and signs, rounding, which tells a half, and reading between rows.
+#![tactic(auto)]
+
 ghost use Rattle.std.specs.Prelude.{◌≡◌, ◌^◌, ◌<◌, ◌≤◌, nat_abs};
 ghost use Rattle.rounding.specs.Nearest.{with_sign, nearest_size, nearest, on_half_size, on_half};
 ghost use Rattle.rounding.specs.Between.{between, between_half, lowered};

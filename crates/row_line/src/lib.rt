@@ -1,4 +1,6 @@
 // The line of the correction program, `minute y0 H V a`: a latitude row's minute and its new figures, and the correction that it asks for.
+#![tactic(auto)]
+
 ghost use Rattle.std.specs.Prelude.{◌≡◌};
 ghost use Rattle.row_line.specs.RowLine.{row_asked, number_by, sheet_by};
 

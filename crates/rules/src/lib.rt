@@ -1,4 +1,6 @@
 // The rules of a sheet's figures, as functions of the figures. Check and correction call the same ranges and bounds; the check tests the printed differences, a correction works them.
+#![tactic(auto)]
+
 ghost use Rattle.std.specs.Prelude.{◌≡◌, true, ◌%◌, ◌≤◌, nat_abs, ◌-ℤ◌};
 ghost use Rattle.rounding.specs.Ranges.{most_scale, most_change};
 ghost use Rattle.steps.specs.Steps.{per_second};

@@ -1,5 +1,7 @@
 // A file saved under its name, whole or not at all: it is written under a temporary name in the same folder, brought to the disk, and then renamed. What stands under the name already is looked at
 // first: an ordinary file hands on its permissions and its owner, and anything else stays as it is. No contract can say what the system does; the functions that make a name or a path say what they answer.
+#![tactic(auto)]
+
 ghost use Rattle.std.specs.Prelude.{◌≡◌, cond, ◌++◌, ◌+◌, ◌<◌, ◌≤◌, eqb, length, drop};
 ghost use Rattle.libc.specs.Io.{Ended};
 ghost use Rattle.saving.specs.Names.{slash, folder_end, temporary_of, path_of};

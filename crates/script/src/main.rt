@@ -9,6 +9,8 @@
 //     # TEXT               for the reader, as are empty lines
 //
 // A line is known by its first byte. Each of the first three is judged by the check; a correction stays until the next of them.
+#![tactic(auto)]
+
 use contents::Verdict;
 use libc::{STDIN_FILENO, STDOUT_FILENO};
 use point_line::{CONVERGENCE, FORWARD, INVERSE, Line};

@@ -1,4 +1,6 @@
 // The check of a sheet: its contents, then its bodies by kind and row, each body a part of the sheet that its kind's checker judges.
+#![tactic(auto)]
+
 ghost use Rattle.std.specs.Prelude.{◌≡◌, ◌*◌, ◌<◌, ◌≤◌, length};
 ghost use Rattle.refusals.specs.Faults.{first_fault};
 ghost use Rattle.entries.specs.Layout.{latitude, longitude, last_kind, width_of, row_bytes};

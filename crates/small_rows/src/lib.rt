@@ -1,4 +1,6 @@
 // The fault of one row of the small bodies, kind by kind: zone, longitude, northing, easting and scale. A row is read by one function and judged by another, which reads nothing.
+#![tactic(auto)]
+
 ghost use Rattle.std.specs.Prelude.{◌≡◌, ◌+◌, ◌*◌, ◌≤◌, length};
 ghost use Rattle.entries.specs.Layout.{zone, longitude, northing, easting, scale, row_bytes};
 ghost use Rattle.small_rows.specs.SmallRows.{zone_at, longitude_at, northing_at, easting_at, scale_at, zero_where, zone_row_fault, longitude_row_fault, northing_row_fault, easting_row_fault, scale_row_fault};

@@ -1,4 +1,6 @@
 // The Survey's printed steps, each one function over whole numbers in the sheet's units, with one rounding, and whether that met a half.
+#![tactic(auto)]
+
 ghost use Rattle.std.specs.Prelude.{◌≡◌, ◌+◌, ◌*◌, ◌<◌, ◌≤◌, T, pos, nat_abs, ◌+ℤ◌, ◌-ℤ◌, ◌*ℤ◌};
 ghost use Rattle.std.specs.Int.Signed.{non_neg};
 ghost use Rattle.rounding.specs.Ranges.{most_h, most_v, most_a, most_b, most_c, most_p, most_m, most_d, most_s, most_q, most_x, most_word, most_step, most_gap, most_scale, most_numerator};

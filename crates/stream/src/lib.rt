@@ -1,5 +1,7 @@
 // The lines of an input that is read in pieces into a buffer: where the next line ends, and what is kept of a line that has not. The buffer's bytes from `from` to `to` are those that were read and
 // not yet handed on.
+#![tactic(auto)]
+
 ghost use Rattle.std.specs.Prelude.{◌≡◌, ◌+◌, ◌≤◌, ◌<◌, min, ◌++◌, length, take, drop};
 ghost use Rattle.std.proofs.Math.Seq.{slice};
 ghost use Rattle.bytes.specs.Bytes.{index_of};

@@ -1,5 +1,7 @@
 // Works the sources' samples: those of Indiana and Hawaii on their sheets, with the figures on the way, and those of Illinois and Vermont, of which there is no
 // sheet, from the figures that their forms print. Prints the answers by the rules; a comment says where a form prints another.
+#![tactic(auto)]
+
 ghost use Rattle.std.specs.Prelude.{◌≡◌, true, ◌*◌, ◌<◌, ◌≤◌, T, pos, nat_abs, ◌+ℤ◌, ◌-ℤ◌, ◌*ℤ◌, length};
 ghost use Rattle.std.specs.Int.Signed.{non_neg};
 ghost use Rattle.rounding.specs.Ranges.{most_h, most_v, most_a, most_b, most_c, most_p, most_m, most_d, most_s, most_x, most_word};

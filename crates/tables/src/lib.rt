@@ -1,4 +1,6 @@
 // The figures of a sheet that passes the check, by name: at its rows and between them. The sheet goes with its places, which are worked once.
+#![tactic(auto)]
+
 ghost use Rattle.std.specs.Prelude.{◌≡◌, true, ◌-◌, ◌^◌, ◌<◌, ◌≤◌, min, pos, nat_abs};
 ghost use Rattle.std.specs.Int.Signed.{le_z};
 ghost use Rattle.rounding.specs.Ranges.{most_h, most_v, most_a, most_b, most_c, most_p, most_m, most_d};

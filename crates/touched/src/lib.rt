@@ -1,5 +1,7 @@
 // Which points a correction of one latitude row may touch. Each question has two forms with one definition: over any bytes, which are checked first, and over a sheet known to
 // pass, with its places in hand.
+#![tactic(auto)]
+
 ghost use Rattle.std.specs.Prelude.{◌≡◌, true, ◌<◌};
 ghost use Rattle.entries.specs.Layout.{latitude};
 ghost use Rattle.entries.specs.Entries.{rows_of};

@@ -1,6 +1,8 @@
 // Runs the ways in on the sheet that its argument names, and on none. A line says what was asked, with the sheet's number of bytes, and the answer behind a colon.
 // R: the reader of contents, an entry. B: the batch, words of points and of room; number, count, and 14 words of the memory. G, P, S: the tools' door.
 // F: a count in feet. A float is the count that it is, if any, a stroke, and its 64 bits in hexadecimal.
+#![tactic(auto)]
+
 ghost use Rattle.std.specs.Prelude.{◌≡◌, ◌≤◌, length};
 
 use counts::Whole;

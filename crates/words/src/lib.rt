@@ -1,4 +1,6 @@
 // A sheet's words: read and written at a word number, four bytes each, big-endian, two's complement.
+#![tactic(auto)]
+
 ghost use Rattle.std.specs.Prelude.{◌≡◌, ◌+◌, ◌*◌, ◌<◌, ◌≤◌, length};
 ghost use Rattle.rounding.specs.Between.{lowered};
 ghost use Rattle.words.specs.Words.{unsigned_at, word_at, bits32, put_word};

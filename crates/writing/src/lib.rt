@@ -1,4 +1,6 @@
 // What writes a sheet: a latitude row's words, and the table of contents.
+#![tactic(auto)]
+
 ghost use Rattle.std.specs.Prelude.{◌≡◌, ◌+◌, ◌*◌, ◌<◌, ◌≤◌, length};
 ghost use Rattle.entries.specs.Layout.{latitude, row_bytes, HasContents};
 ghost use Rattle.writing.specs.Rows.{put_figures, put_differences, put_row};
