@@ -1,5 +1,4 @@
 -- `steps::size_of_l` meets its contract. Assumes nothing.
-use borrow.Author.Rules.{rules}
 use native.Mathlib.Omega.{arith}
 use Prim.Native.Nat.{ℕ, ◌+◌, ◌*◌}
 use lib.Dec.{T}
@@ -13,10 +12,10 @@ use Rattle.rounding.proofs.Sizes.{times_non_neg}
 use Rattle.rounding.proofs.Holds.{Holds, held, held_size, held_literal, difference_fits, difference, product_fits, product, size_most, unsigned_fits}
 use Rattle.rounding.proofs.Rounding.{rounded_size}
 use Rattle.rounding.proofs.Halves.{marked_size}
-use Rattle.steps.proofs.size_of_l.Statement.{statement}
-use Rattle.steps.proofs.size_of_l.Tie as tie
+use Rattle.steps.proofs.size_of_l.Goals as goal
+use Rattle.steps.proofs.size_of_l.Goals.{Start}
 
-module _ (c : tie.Start) where
+module _ (c : Start) where
   x : Holds w64 (c.args.x * 10_000) (pos (c.args.x * 10_000)) (most_x * 10_000)
   x = held_size w64 (omega arith) tt
 
@@ -38,36 +37,23 @@ module _ (c : tie.Start) where
   not_negative : T (non_neg ((pos (c.args.x * 10_000) -ℤ c.args.a *ℤ c.args.b) *ℤ pos 1_000))
   not_negative = times_non_neg (pos (c.args.x * 10_000) -ℤ c.args.a *ℤ c.args.b) 1_000 c.requires.5
 
-returns : tie.Need-returns
+pub returns : goal.returns
 unfolding size_of_l size_of_l_half
 returns c =
     let d = c.before in
-    (rounded_size d.args.h (whole d) (not_negative d) c.nearest-size.ensures.0, marked_size d.args.h (whole d) c.nearest-size.ensures.1)
+    (rounded_size d.args.h (whole d) (not_negative d) c.nearest_size.ensures.0, marked_size d.args.h (whole d) c.nearest_size.ensures.1)
 
-mul-rest-2 : tie.Need-overflow-mul-rest-2
-mul-rest-2 c = product_fits (a c) (b c) tt
+pub overflow_mul-rest-2 : goal.overflow_mul-rest-2
+overflow_mul-rest-2 c = product_fits (a c) (b c) tt
 
-sub-rest : tie.Need-overflow-sub-rest
-sub-rest c = difference_fits (x c) (product (a c) (b c) tt) tt
+pub overflow_sub-rest : goal.overflow_sub-rest
+overflow_sub-rest c = difference_fits (x c) (product (a c) (b c) tt) tt
 
-mul-rest-3 : tie.Need-overflow-mul-rest-3
-mul-rest-3 c = product_fits (difference (x c) (product (a c) (b c) tt) tt) (thousand c) tt
+pub overflow_mul-rest-3 : goal.overflow_mul-rest-3
+overflow_mul-rest-3 c = product_fits (difference (x c) (product (a c) (b c) tt) tt) (thousand c) tt
 
-cast-nearest-size : tie.Need-overflow-cast-nearest-size
-cast-nearest-size c = unsigned_fits (whole c) (not_negative c) tt
+pub overflow_cast-rest-2 : goal.overflow_cast-rest-2
+overflow_cast-rest-2 c = unsigned_fits (whole c) (not_negative c) tt
 
-nearest-size-requires : tie.Need-nearest-size-requires
-nearest-size-requires c κs = (size_most (whole c) tt, c.requires.3, omega arith)
-
-pub size-of-l-spec : {M : Type 1} → statement M
-size-of-l-spec =
-    tie.close
-    (tie.spec
-    (λ c. search rules)
-    (λ c. search rules)
-    mul-rest-2
-    sub-rest
-    mul-rest-3
-    cast-nearest-size
-    nearest-size-requires
-    returns)
+pub nearest_size-requires : goal.nearest_size-requires
+nearest_size-requires c = (size_most (whole c) tt, c.requires.3, omega arith)

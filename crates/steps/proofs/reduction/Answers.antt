@@ -20,17 +20,17 @@ use Rattle.rounding.proofs.Holds.{Holds, held, held_size, held_literal, sum_fits
 use Rattle.rounding.proofs.Rounding.{nearest_size_le, rounded, rounded_size}
 use Rattle.rounding.proofs.Halves.{marked, marked_size}
 use Rattle.steps.proofs.Splitting.{toward_size, size_toward, wide_nearest, wide_half}
-use Rattle.steps.proofs.reduction.Statement.{statement}
-use Rattle.steps.proofs.reduction.Tie as tie
+use Rattle.steps.proofs.reduction.Goals as goal
+use Rattle.steps.proofs.reduction.Goals.{After-nearest_size-size, After-toward_zero, Else-t-lt0, Start}
 
 -- the parts of P·x², as the code has them
-abbrev low : tie.Start → ℕ
+abbrev low : Start → ℕ
 low c = c.args.p * (c.args.x * c.args.x % 16_384)
 
-abbrev whole : tie.Start → ℕ
+abbrev whole : Start → ℕ
 whole c = c.args.p * (c.args.x * c.args.x / 16_384) + low c / 16_384
 
-module _ (c : tie.Start) where
+module _ (c : Start) where
   square_small : c.args.x * c.args.x ≤ most_x * most_x
   square_small = product_most most_x most_x c.requires.1 c.requires.1
 
@@ -65,101 +65,81 @@ module _ (c : tie.Start) where
   unfolding reduction_half
   half_is = sym (wide_half c.args.p (c.args.x * c.args.x) 16_384 30_517_578_125 c.args.d (lit< tt) (lit< tt))
 
-mul-square : tie.Need-overflow-mul-square
-mul-square c = omega (arith, square_small c)
+pub overflow_mul-square : goal.overflow_mul-square
+overflow_mul-square c = omega (arith, square_small c)
 
-mul_low : tie.Need-overflow-mul-low
-mul_low c = omega (arith, low_small c)
+pub overflow_mul-low : goal.overflow_mul-low
+overflow_mul-low c = omega (arith, low_small c)
 
-mul-whole : tie.Need-overflow-mul-whole
-mul-whole c = omega (arith, high_small c)
+pub overflow_mul-whole : goal.overflow_mul-whole
+overflow_mul-whole c = omega (arith, high_small c)
 
-add-whole : tie.Need-overflow-add-whole
-add-whole c = omega (arith, high_small c, low_small c)
+pub overflow_add-whole : goal.overflow_add-whole
+overflow_add-whole c = omega (arith, high_small c, low_small c)
 
-cast_t : tie.Need-overflow-cast-t
-cast_t c = omega (arith, high_small c, low_small c)
+pub overflow_cast-t : goal.overflow_cast-t
+overflow_cast-t c = omega (arith, high_small c, low_small c)
 
-mul-t : tie.Need-overflow-mul-t
-mul-t c = product_fits (d c) (high c) tt
+pub overflow_mul-t : goal.overflow_mul-t
+overflow_mul-t c = product_fits (d c) (high c) tt
 
-add-t : tie.Need-overflow-add-t
-add-t c = sum_fits (whole_held c) (product (d c) (high c) tt) tt
+pub overflow_add-t : goal.overflow_add-t
+overflow_add-t c = sum_fits (whole_held c) (product (d c) (high c) tt) tt
 
 -- ---- below zero
 -- what `toward_zero` answered
-dropped : (c : tie.After-toward-zero) → Holds w64 (of_z w64 c.toward_zero.result) (toward_zero (t c.before.before) (low c.before.before % 16_384)) 494_390_869_141_625_000
+dropped : (c : After-toward_zero) → Holds w64 (of_z w64 c.toward_zero.result) (toward_zero (t c.before.before) (low c.before.before % 16_384)) 494_390_869_141_625_000
 dropped c =
     let b = c.before.before in
     let e = c.toward_zero.ensures ∙ ap (λ (z : ℤ). toward_zero z (low b % 16_384)) (t_held b).is in
     let k = le_trans (size_toward (t b) (low b % 16_384)) (t_held b).size in
-    record { is = to_z-of_z (sfits_of c.toward_zero.type-inv) ∙ e; size = k }
+    record { is = to_z-of_z {w = w64} (sfits_of {w = w64} c.toward_zero.type_inv) ∙ e; size = k }
 
-toward-zero-requires : tie.Need-toward-zero-requires
-toward-zero-requires c κs = size_most (t_held c.before) tt
+pub toward_zero-requires : goal.toward_zero-requires
+toward_zero-requires c = size_most (t_held c.before) tt
 
-nearest-requires : tie.Need-nearest-requires
-nearest-requires c κs = (size_most (dropped c) tt, lit< tt, lit≤ tt)
+pub nearest-r-requires : goal.nearest-r-requires
+nearest-r-requires c = (size_most (dropped c) tt, lit< tt, lit≤ tt)
 
-returns : tie.Need-returns
-returns c =
+pub returns-then-t-lt0 : goal.returns-then-t-lt0
+returns-then-t-lt0 c =
     let worked = c.before.before in
     let b = worked.before.before.before in
-    let value : to_z w64 (of_z w64 worked.nearest.result.value) ≡ worked.nearest.result.value = search rules in (
-      value ∙ rounded 61_035_156_250 (dropped worked.before) worked.nearest.ensures.0 ∙ value_is b,
-      ap (λ (h : Bool). h && eqb (low b % 16_384) 0) (marked 61_035_156_250 (dropped worked.before) worked.nearest.ensures.1) ∙ half_is b,
+    let value : to_z w64 (of_z w64 worked.nearest-r.result.value) ≡ worked.nearest-r.result.value = search rules in (
+      value ∙ rounded 61_035_156_250 (dropped worked.before) worked.nearest-r.ensures.0 ∙ value_is b,
+      ap (λ (h : Bool). h && eqb (low b % 16_384) 0) (marked 61_035_156_250 (dropped worked.before) worked.nearest-r.ensures.1) ∙ half_is b,
     )
 
 -- ---- not below zero
-not_below : (c : tie.Else1) → T (non_neg (t c.before))
-not_below c = not_negative (t_held c.before) c.if1.false
+not_below : (c : Else-t-lt0) → T (non_neg (t c.before))
+not_below c = not_negative (t_held c.before) c.if-t-lt0.false
 
-nothing_dropped : (c : tie.Else1) → toward_zero (t c.before) (low c.before % 16_384) ≡ t c.before
+nothing_dropped : (c : Else-t-lt0) → toward_zero (t c.before) (low c.before % 16_384) ≡ t c.before
 nothing_dropped c = toward_size (t c.before) (low c.before % 16_384) (not_below c)
 
-cast-nearest-size : tie.Need-overflow-cast-nearest-size
-cast-nearest-size c = unsigned_fits (t_held c.before) (not_below c) tt
+pub overflow_cast-t-3 : goal.overflow_cast-t-3
+overflow_cast-t-3 c = unsigned_fits (t_held c.before) (not_below c) tt
 
-nearest-size-requires : tie.Need-nearest-size-requires
-nearest-size-requires c κs = (size_most (t_held c.before) tt, lit< tt, lit≤ tt)
+pub nearest_size-size-requires : goal.nearest_size-size-requires
+nearest_size-size-requires c = (size_most (t_held c.before) tt, lit< tt, lit≤ tt)
 
 -- the size that `nearest_size` answered
-answered : (c : tie.After-nearest-size) → Holds w64 c.nearest-size.result.value (pos c.nearest-size.result.value) 494_390_869_141_625_000
-answered c = held_size w64 (rw c.nearest-size.ensures.0 (le_trans (nearest_size_le _ 61_035_156_250 (lit< tt)) (size_most (t_held c.before.before) tt))) tt
+answered : (c : After-nearest_size-size) → Holds w64 c.nearest_size-size.result.value (pos c.nearest_size-size.result.value) 494_390_869_141_625_000
+answered c = held_size w64 (rw c.nearest_size-size.ensures.0 (le_trans (nearest_size_le _ 61_035_156_250 (lit< tt)) (size_most (t_held c.before.before) tt))) tt
 
-cast-t14 : tie.Need-overflow-cast-t14
-cast-t14 c = record { sfits = omega (arith, (answered c.before).size) }
+pub overflow_cast-result : goal.overflow_cast-result
+overflow_cast-result c = record { sfits = omega (arith, (answered c.before).size) }
 
-returns-2 : tie.Need-returns-2
-returns-2 c =
+pub returns : goal.returns
+returns c =
     let worked = c.before.before in
     let b = worked.before.before in
     let same = sym (nothing_dropped worked.before) in (
       (answered worked).is
-          ∙ rounded_size 61_035_156_250 (t_held b) (not_below worked.before) worked.nearest-size.ensures.0
+          ∙ rounded_size 61_035_156_250 (t_held b) (not_below worked.before) worked.nearest_size-size.ensures.0
           ∙ ap (λ (z : ℤ). nearest z 61_035_156_250) same
           ∙ value_is b,
       ap (λ (h : Bool). h && eqb (low b % 16_384) 0)
-          (marked_size 61_035_156_250 (t_held b) worked.nearest-size.ensures.1 ∙ ap (λ (z : ℤ). on_half z 61_035_156_250) same)
+          (marked_size 61_035_156_250 (t_held b) worked.nearest_size-size.ensures.1 ∙ ap (λ (z : ℤ). on_half z 61_035_156_250) same)
           ∙ half_is b,
     )
-
-pub reduction-spec : {M : Type 1} → statement M
-reduction-spec =
-    tie.close
-    (tie.spec
-    mul-square
-    mul_low
-    mul-whole
-    add-whole
-    cast_t
-    (λ c. search rules)
-    mul-t
-    add-t
-    toward-zero-requires
-    nearest-requires
-    returns
-    cast-nearest-size
-    nearest-size-requires
-    cast-t14
-    returns-2)

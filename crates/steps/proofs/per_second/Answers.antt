@@ -10,28 +10,25 @@ use Rattle.steps.specs.Steps.{per_second}
 use Rattle.rounding.specs.Ranges.{most_word, most_scale}
 use Rattle.rounding.proofs.Holds.{Holds, held, held_size, product_fits, product, size_most}
 use Rattle.rounding.proofs.Rounding.{rounded}
-use Rattle.steps.proofs.per_second.Statement.{statement}
-use Rattle.steps.proofs.per_second.Tie as tie
+use Rattle.steps.proofs.per_second.Goals as goal
+use Rattle.steps.proofs.per_second.Goals.{Start}
 
-module _ (c : tie.Start) where
+module _ (c : Start) where
   scale : Holds w64 c.args.scale (pos c.args.scale) most_scale
   scale = held_size w64 c.requires.0 tt
 
   difference : Holds w64 (of_z w64 c.args.difference) c.args.difference (most_word + most_word)
   difference = held c.ranges.difference c.requires.1
 
-returns : tie.Need-returns
+pub returns : goal.returns
 unfolding per_second
 returns c =
     let start = c.before.before in
-    let value : to_z w64 (of_z w64 c.before.nearest.result.value) ≡ c.before.nearest.result.value = search rules in
-    value ∙ rounded 60 (product (scale start) (difference start) tt) c.before.nearest.ensures.0
+    let value : to_z w64 (of_z w64 c.nearest.result.value) ≡ c.nearest.result.value = search rules in
+    value ∙ rounded 60 (product (scale start) (difference start) tt) c.nearest.ensures.0
 
-mul-nearest : tie.Need-overflow-mul-nearest
-mul-nearest c = product_fits (scale c) (difference c) tt
+pub overflow_mul-scale : goal.overflow_mul-scale
+overflow_mul-scale c = product_fits (scale c) (difference c) tt
 
-nearest-requires : tie.Need-nearest-requires
-nearest-requires c κs = (size_most (product (scale c) (difference c) tt) tt, lit< tt, lit≤ tt)
-
-pub per-second-spec : {M : Type 1} → statement M
-per-second-spec = tie.close (tie.spec (λ c. search rules) mul-nearest nearest-requires returns)
+pub nearest-requires : goal.nearest-requires
+nearest-requires c = (size_most (product (scale c) (difference c) tt) tt, lit< tt, lit≤ tt)

@@ -11,10 +11,10 @@ use Rattle.rounding.proofs.Sizes.{product_most}
 use Rattle.rounding.proofs.Holds.{Holds, held, held_size, held_literal, sum_fits, sum, product_fits, product, size_most}
 use Rattle.rounding.proofs.Rounding.{rounded}
 use Rattle.rounding.proofs.Halves.{marked}
-use Rattle.steps.proofs.rise.Statement.{statement}
-use Rattle.steps.proofs.rise.Tie as tie
+use Rattle.steps.proofs.rise.Goals as goal
+use Rattle.steps.proofs.rise.Goals.{Start}
 
-module _ (c : tie.Start) where
+module _ (c : Start) where
   vq_small : c.args.v * c.args.q ≤ most_v * most_q
   vq_small = product_most most_v most_q c.requires.0 c.requires.1
 
@@ -27,29 +27,24 @@ module _ (c : tie.Start) where
   million : Holds w64 1_000_000 (pos 1_000_000) 1_000_000
   million = held_literal w64 1_000_000 tt
 
-returns : tie.Need-returns
+pub returns : goal.returns
 unfolding rise rise_half
 returns c =
     let b = c.before in
     let whole = sum (vq b) (product (figure_c b) (million b) tt) tt in
     (rounded 10_000_000 whole c.nearest.ensures.0, marked 10_000_000 whole c.nearest.ensures.1)
 
-mul-nearest : tie.Need-overflow-mul-nearest
-mul-nearest c = omega (arith, vq_small c)
+pub overflow_mul-v : goal.overflow_mul-v
+overflow_mul-v c = omega (arith, vq_small c)
 
-cast-nearest : tie.Need-overflow-cast-nearest
-cast-nearest c = omega (arith, vq_small c)
+pub overflow_cast-v : goal.overflow_cast-v
+overflow_cast-v c = omega (arith, vq_small c)
 
-mul-nearest-2 : tie.Need-overflow-mul-nearest-2
-mul-nearest-2 c = product_fits (figure_c c) (million c) tt
+pub overflow_mul-c : goal.overflow_mul-c
+overflow_mul-c c = product_fits (figure_c c) (million c) tt
 
-add-nearest : tie.Need-overflow-add-nearest
-add-nearest c = sum_fits (vq c) (product (figure_c c) (million c) tt) tt
+pub overflow_add-v : goal.overflow_add-v
+overflow_add-v c = sum_fits (vq c) (product (figure_c c) (million c) tt) tt
 
-nearest-requires : tie.Need-nearest-requires
-nearest-requires c κs = (size_most (sum (vq c) (product (figure_c c) (million c) tt) tt) tt, lit< tt, lit≤ tt)
-
-pub rise-spec : {M : Type 1} → statement M
-rise-spec =
-    tie.close
-    (tie.spec mul-nearest cast-nearest mul-nearest-2 add-nearest nearest-requires returns)
+pub nearest-requires : goal.nearest-requires
+nearest-requires c = (size_most (sum (vq c) (product (figure_c c) (million c) tt) tt) tt, lit< tt, lit≤ tt)
