@@ -4,16 +4,11 @@ use native.Mathlib.Omega.{arith}
 use mir.Facts.{to_z-of_z}
 use Rattle.words.specs.Words.{signed32, bits32}
 use Rattle.words.proofs.TwosComplement.{raised_lowered, signed32-bits32}
-use borrow.Author.Rules.{rules}
-use Rattle.words.proofs.raised.Statement.{statement}
-use Rattle.words.proofs.raised.Tie as tie
+use Rattle.words.proofs.raised.Goals as goal
 
-returns : tie.Need-returns
+pub returns : goal.returns
 returns c =
     let b = c.before in
     let n = c.bits_of.result in
     let bits : n ≡ bits32 b.args.v = c.bits_of.ensures.0 ∙ ap bits32 (to_z-of_z b.ranges.v) in
     (raised_lowered n c.bits_of.ensures.1 ∙ ap signed32 bits ∙ signed32-bits32 b.args.v b.ranges.v, omega arith)
-
-pub raised-spec : {M : Type 1} → statement M
-raised-spec = tie.close (tie.spec (λ c κs. search rules) (λ c. search rules) (λ c. search rules) returns)
