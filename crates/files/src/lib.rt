@@ -123,7 +123,7 @@ pub fn ends_in_return(name: &[u8]) -> bool {
 // ---- reading
 
 // What a read gave: whether it failed, and how many bytes, 0 at the end.
-#[derive(Drop)]
+#[derive(Clone, Copy)]
 struct Got {
     failed: bool,
     count: usize,
@@ -235,7 +235,7 @@ pub fn load(name: &[u8], sheet: &mut [u8]) -> usize
 // ---- standard input
 
 // What the buffer holds after a read: its first `to` bytes, and whether the read failed.
-#[derive(Drop)]
+#[derive(Clone, Copy)]
 pub struct More {
     pub to: usize,
     pub failed: bool,
@@ -258,7 +258,7 @@ pub fn read_on(input: &mut [u8], n: usize) -> More
 }
 
 // A line of standard input: the buffer's bytes from `from` to `end`; those from `next` to `to` stand behind it. Where a read failed the line did not come whole.
-#[derive(Drop)]
+#[derive(Clone, Copy)]
 pub struct Line {
     pub from: usize,
     pub end: usize,

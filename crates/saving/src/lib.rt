@@ -32,7 +32,7 @@ const CANNOT: [u8; 13] = *b"cannot write ";
 // ---- what stands under a name
 
 // The mode of what stands under a name, which has its kind in it, its owner and its group. The mode is 0, which is no file's, where the system told nothing.
-#[derive(Drop)]
+#[derive(Clone, Copy)]
 struct Standing {
     mode: u32,
     owner: u32,
@@ -107,7 +107,7 @@ fn standing_under(name: &[u8]) -> Standing
 }
 
 // Whether a file may be saved under a name, and the mode, owner and group that it is to have.
-#[derive(Drop)]
+#[derive(Clone, Copy)]
 struct Leave {
     given: bool,
     mode: u32,

@@ -7,8 +7,7 @@ use lib.ListN.{length, set, length-set}
 use lib.Seq.{sets}
 use Rattle.decimal.specs.Writing.{spelled}
 use Rattle.decimal.proofs.Spelling.{last-two_first, last-one_first, none_left}
-use Rattle.decimal.proofs.spell.Statement.{statement}
-use Rattle.decimal.proofs.spell.Tie as tie
+use Rattle.decimal.proofs.spell.Goals as goal
 
 abbrev invariant-loop : tie.invariant-loop
 invariant-loop out₀ at v k i₀ rest₀ out i rest = (i ≤ k) × (length out ≡ length out₀) × (sets out at (spelled i rest) ≡ sets out₀ at (spelled k v))
@@ -17,29 +16,29 @@ abbrev decreases-loop : tie.decreases-loop
 decreases-loop out₀ at v k i₀ rest₀ out i rest = i
 
 -- ---- what it answers
-same_length : tie.Need-same-length invariant-loop decreases-loop
-same_length c = search rules
+pub shape_of-out-then-i-gt0 : goal.shape_of-out-then-i-gt0
+shape_of-out-then-i-gt0 c = search rules
 
-returns : tie.Need-returns invariant-loop decreases-loop
-returns c =
-    let l = c.before.before.loop in
+pub returns-then-i-gt0 : goal.returns-then-i-gt0
+returns-then-i-gt0 c =
+    let l = c.loop-i in
     let e : l.i ≡ 1 = omega arith in
     last-one_first _ _ _ ∙ rw e at l.invariant.2
 
-returns-2 : tie.Need-returns-2 invariant-loop decreases-loop
-returns-2 c =
-    let l = c.before.before.loop in
+pub returns-else-i-gt0 : goal.returns-else-i-gt0
+returns-else-i-gt0 c =
+    let l = c.loop-i in
     let e : l.i ≡ 0 = omega arith in
     rw (e, none_left) at l.invariant.2
 
 -- ---- what its loop keeps
-loop-holds : tie.Need-loop-init invariant-loop decreases-loop
-loop-holds c = (search rules, refl, refl)
+pub loop-i-init : goal.loop-i-init
+loop-i-init c = (search rules, refl, refl)
 
-loop-again : tie.Need-loop-preserved invariant-loop decreases-loop
-loop-again c =
-    let l = c.before.loop in
-    let a = c.before.before.args in
+pub loop-i-preserved : goal.loop-i-preserved
+loop-i-preserved c =
+    let l = c.loop-i in
+    let a = c.args in
     let e : l.i - 2 + 2 ≡ l.i = omega arith in
     let units = set l.out (a.at + (l.i - 2) + 1) (48 + l.rest % 100 % 10) in
     let u = length-set units (a.at + (l.i - 2)) (48 + l.rest % 100 / 10) in
@@ -47,35 +46,8 @@ loop-again c =
     (search rules, u ∙ t ∙ l.invariant.1, last-two_first l.out a.at (l.i - 2) l.rest ∙ rw e l.invariant.2)
 
 -- ---- what its operations ask
-sub-i : tie.Need-overflow-sub-i invariant-loop decreases-loop
-sub-i c = search rules
+pub overflow_sub-i : goal.overflow_sub-i
+overflow_sub-i c = search rules
 
-slice-write-out-2 : tie.Need-slice-write-out-2 invariant-loop decreases-loop
-slice-write-out-2 c = simp length-set (omega arith)
-
-pub spell-spec : {M : Type 1} → statement M
-spell-spec =
-    tie.close
-    (tie.spec
-    invariant-loop
-    decreases-loop
-    loop-holds
-    sub-i
-    (λ c. search rules)
-    (λ c. search rules)
-    (λ c. search rules)
-    (λ c. search rules)
-    (λ c. search rules)
-    (λ c. search rules)
-    (λ c. search rules)
-    (λ c. search rules)
-    slice-write-out-2
-    (λ c. search rules)
-    loop-again
-    (λ c. search rules)
-    (λ c. search rules)
-    (λ c. search rules)
-    same_length
-    returns
-    (λ c. search rules)
-    returns-2)
+pub bounds-out-at-in-loop-i : goal.bounds-out-at-in-loop-i
+bounds-out-at-in-loop-i c = simp length-set (omega arith)
