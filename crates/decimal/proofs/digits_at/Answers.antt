@@ -1,19 +1,12 @@
 -- `decimal::digits_at` meets its contract: each turn reads one digit more. Assumes nothing.
 use borrow.Author.Rules.{rules}
 use mathlib.Core.Path.{◌≡◌, refl, ap}
-use borrow.Author.Tests.{not-true, not-false}
-use Prim.Native.Nat.{◌-◌, ◌≤◌}
+use Prim.Native.Nat.{◌-◌}
 use native.Mathlib.Omega.{arith}
 use lib.Dec.{lit≤}
 use Rattle.decimal.specs.Reading.{digit_of}
-use Rattle.decimal.proofs.DigitsRead.{Read, none_read, value_small, next_read, ended_here, ended_at, eleven_read, none_there, digit_there, no_digit}
+use Rattle.decimal.proofs.DigitsRead.{none_read, value_small, next_read, ended_here, ended_at, eleven_read, none_there, digit_there, no_digit}
 use Rattle.decimal.proofs.digits_at.Goals as goal
-
-abbrev invariant-loop : tie.invariant-loop
-invariant-loop s at end i₀ value₀ i value = Read s at i (i - at) value × (at ≤ i) × (i ≤ end)
-
-abbrev decreases-loop : tie.decreases-loop
-decreases-loop s at end i₀ value₀ i value = end - i
 
 -- ---- what it answers
 pub returns-then-s-at : goal.returns-then-s-at
@@ -23,7 +16,7 @@ pub returns-then-not-is_digit : goal.returns-then-not-is_digit
 returns-then-not-is_digit c =
     let l = c.loop-i in
     let end = c.last_place-end.ensures in
-    (ended_here _ _ _ _ _ l.invariant.0 _ refl (omega (arith, end.1)) (no_digit _ _ c.is_digit.ensures (not-true _ c.if-not-is_digit.true)), l.invariant.0.most, value_small _ _ _ _ _ l.invariant.0)
+    (ended_here _ _ _ _ _ l.invariant.0 _ refl (omega (arith, end.1)) (no_digit _ _ c.is_digit.ensures c.if-not-is_digit.true), l.invariant.0.most, value_small _ _ _ _ _ l.invariant.0)
 
 pub returns-then-is_digit : goal.returns-then-is_digit
 returns-then-is_digit c =
@@ -63,7 +56,7 @@ pub overflow_mul-value : goal.overflow_mul-value
 overflow_mul-value c = record { fits = omega (arith, value_small _ _ _ _ _ c.loop-i.invariant.0) }
 
 pub digit_of-requires : goal.digit_of-requires
-digit_of-requires c = digit_there _ _ c.is_digit.ensures (not-false _ c.if-not-is_digit.false)
+digit_of-requires c = digit_there _ _ c.is_digit.ensures c.if-not-is_digit.false
 
 pub overflow_add-value : goal.overflow_add-value
 overflow_add-value c = record { fits = omega (arith, value_small _ _ _ _ _ c.loop-i.invariant.0, c.digit_of.ensures.1) }

@@ -1,17 +1,9 @@
 -- `decimal::digits_needed_from` meets its contract. Assumes nothing.
 use mathlib.Core.Path.{◌≡◌, ◌∙◌}
-use Prim.Native.Nat.{◌-◌}
 use native.Mathlib.Omega.{arith}
 use lib.Dec.{lit≤}
-use Rattle.decimal.specs.Counting.{Counting}
 use Rattle.decimal.proofs.Spelling.{limit_small, placed, next_place, last-place}
 use Rattle.decimal.proofs.digits_needed_from.Goals as goal
-
-abbrev invariant-loop : tie.invariant-loop
-invariant-loop v least power k₀ limit₀ k limit = Counting v k limit
-
-abbrev decreases-loop : tie.decreases-loop
-decreases-loop v least power k₀ limit₀ k limit = 19 - k
 
 -- ---- what it answers
 pub returns-then-v-limit : goal.returns-then-v-limit

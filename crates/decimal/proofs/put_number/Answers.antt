@@ -18,22 +18,22 @@ pub overflow_cast-v : goal.overflow_cast-v
 overflow_cast-v c = cast_fits (held_i32 c.args.v c.ranges.v.sfits) tt
 
 pub size-size-requires : goal.size-size-requires
-size-size-requires c = size_below (wide c.before) tt
+size-size-requires c = size_below (wide (goal.at.size-size-requires c).Start) tt
 
 pub returns-then-v-lt0 : goal.returns-then-v-lt0
 returns-then-v-lt0 c =
-    let taken = c.before.before.before.before.before.before.before.before in
-    let start = taken.before.before.before in
+    let taken = c in
+    let start = (goal.at.returns-then-v-lt0 c).Start in
     let put = c.put_size.ensures in
     let byte = c.put_byte-next.ensures in
     let done =
-    after_minus start.args.out-1.now _ start.args.at _ _ start.args.v _ _ (rw (value start) at taken.if-v-lt0.true) (taken.size-size.ensures ∙ unsigned (wide start)) byte.1 put.1 in
+    after_minus start.args.out.now _ start.args.at _ _ start.args.v _ _ (rw (value start) at taken.if-v-lt0.true) (taken.size-size.ensures ∙ unsigned (wide start)) byte.1 put.1 in
     (omega (arith, put.0, byte.0), done)
 
 pub returns : goal.returns
 returns c =
-    let left = c.before.before.before.before in
-    let start = left.before.before.before in
+    let left = c in
+    let start = (goal.at.returns c).Start in
     let put = c.put_size-2.ensures in
-    let done = without_minus start.args.out-1.now _ start.args.at _ _ start.args.v (rw (value start) at left.if-v-lt0.false) (left.size-size.ensures ∙ unsigned (wide start)) put.1 in
+    let done = without_minus start.args.out.now _ start.args.at _ _ start.args.v (rw (value start) at left.if-v-lt0.false) (left.size-size.ensures ∙ unsigned (wide start)) put.1 in
     (omega (arith, put.0), done)

@@ -5,7 +5,7 @@ use Rattle.decimal.proofs.put_size.Goals as goal
 
 pub returns : goal.returns
 returns c =
-    let start = c.before.before.before.before.before.before in
+    let start = c in
     let k = c.digits_needed-k.ensures in
     let n = length_size start.args.v _ k.0 in
     (omega (arith, k.1), record { place = omega (arith, n); bytes = written_size _ _ _ _ _ k.0 c.spell.ensures })

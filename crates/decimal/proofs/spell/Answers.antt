@@ -1,23 +1,13 @@
 -- `decimal::spell` meets its contract: with i digits left to store, those left give the memory that all of them give. Assumes nothing.
 use borrow.Author.Rules.{rules}
 use mathlib.Core.Path.{◌≡◌, refl, ◌∙◌}
-use Prim.Native.Nat.{◌+◌, ◌-◌, ◌/◌, ◌%◌, ◌≤◌}
+use Prim.Native.Nat.{◌+◌, ◌-◌, ◌/◌, ◌%◌}
 use native.Mathlib.Omega.{arith}
-use lib.ListN.{length, set, length-set}
-use lib.Seq.{sets}
-use Rattle.decimal.specs.Writing.{spelled}
+use lib.ListN.{set, length-set}
 use Rattle.decimal.proofs.Spelling.{last-two_first, last-one_first, none_left}
 use Rattle.decimal.proofs.spell.Goals as goal
 
-abbrev invariant-loop : tie.invariant-loop
-invariant-loop out₀ at v k i₀ rest₀ out i rest = (i ≤ k) × (length out ≡ length out₀) × (sets out at (spelled i rest) ≡ sets out₀ at (spelled k v))
-
-abbrev decreases-loop : tie.decreases-loop
-decreases-loop out₀ at v k i₀ rest₀ out i rest = i
-
 -- ---- what it answers
-pub shape_of-out-then-i-gt0 : goal.shape_of-out-then-i-gt0
-shape_of-out-then-i-gt0 c = search rules
 
 pub returns-then-i-gt0 : goal.returns-then-i-gt0
 returns-then-i-gt0 c =
