@@ -18,4 +18,4 @@ returns c =
     let y0 : to_z w32 (of_z w32 a.f.y0) ≡ a.f.y0 = search rules in
     let h : to_z w32 (of_z w32 a.f.h) ≡ a.f.h = search rules in
     let v : to_z w32 (of_z w32 a.f.v) ≡ a.f.v = search rules in
-    four_put a.b-1.now a.i _ _ _ _ _ _ a.f _ _ y0 h v (a_read w₄) c.put_word.ensures c.put_word-2.ensures c.put_word-3.ensures w₄.put_word-4.ensures
+    four_put a.b.now a.i _ _ _ _ _ _ a.f _ _ y0 h v (a_read w₄) c.put_word.ensures c.put_word-2.ensures c.put_word-3.ensures w₄.put_word-4.ensures
