@@ -1,5 +1,4 @@
 -- `row_search::down` meets its contract. The loop keeps to the n rows; `row` falls, and above row 0, since row 0 is not above z. Assumes nothing.
-use borrow.Author.Tests.{not-true, not-false}
 use native.Mathlib.Omega.{arith}
 use mathlib.Core.Path.{◌≡◌, sym, subst, ◌∙◌}
 use mathlib.Core.Bool.{true, false}
@@ -30,7 +29,7 @@ not_above-requires c =
 above_first : (c : In-loop-row) → 1 ≤ c.loop-row.row
 above_first c =
     let a = c.args in
-    not_first (column a.b.now a.w a.c) a.z c.loop-row.row c.requires.4 (rw (to_z-of_z c.ranges.z) at (sym c.not_above.ensures ∙ not-true c.not_above.result c.loop-row-test.true))
+    not_first (column a.b.now a.w a.c) a.z c.loop-row.row c.requires.4 (rw (to_z-of_z c.ranges.z) at (sym c.not_above.ensures ∙ c.loop-row-test.true))
 
 pub overflow_sub-row : goal.overflow_sub-row
 overflow_sub-row c = omega (arith, above_first c)
@@ -43,4 +42,4 @@ loop-row-preserved c = omega (arith, c.loop-row.invariant)
 
 pub returns : goal.returns
 returns c =
-    (c.loop-row.invariant, rw (to_z-of_z c.ranges.z) at (sym c.not_above.ensures ∙ not-false c.not_above.result c.loop-row-test.false))
+    (c.loop-row.invariant, rw (to_z-of_z c.ranges.z) at (sym c.not_above.ensures ∙ c.loop-row-test.false))
