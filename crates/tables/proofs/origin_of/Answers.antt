@@ -10,4 +10,4 @@ returns c =
     let first = c.first_latitude-first in
     let central = c.central_meridian-central in
     let easting = c.false_easting in
-    rw (bits_is first.ok ∙ first.ensures.0, bits_is central.ok ∙ central.ensures.0, bits_is easting.ok ∙ easting.ensures.0)
+    rw (bits_is first.type_inv ∙ first.ensures.0, bits_is central.type_inv ∙ central.ensures.0, bits_is easting.type_inv ∙ easting.ensures.0)
