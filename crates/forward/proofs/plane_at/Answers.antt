@@ -18,7 +18,7 @@ use Rattle.extent.proofs.Reach.{latitude_reach, latitude-small, latitude-within,
 use Rattle.forward.proofs.Eastings.{plane-worked, workable-as_read}
 use borrow.Author.Rules.{rules}
 use Rattle.forward.proofs.plane_at.Goals as goal
-use Rattle.forward.proofs.plane_at.Goals.{After-from_first-t, After-l_of-l, After-position-arg-1, After-shared_slice_known-1, After-size, After-taken_at-taken, Start}
+use Rattle.forward.proofs.plane_at.Goals.{After-from_first-t, After-l_of-l, After-size, After-taken_at-taken, Start}
 
 -- the latitude's distance from row 0, and L, as they were worked
 module _ (c : After-from_first-t) where
@@ -37,32 +37,30 @@ l_is c =
 
 -- the size of L is within its table
 size_within : (c : After-size) → Within c.args.s.now longitude c.size.result
-size_within c = rw (c.size.ensures, l_is (goal.at.After-size c).After-position-arg-1) (longitude-within _ _ c.requires.3)
+size_within c = rw (c.size.ensures, l_is (goal.at.After-size c).After-l_of-l) (longitude-within _ _ c.requires.3)
 
 -- where the figures were taken, and the false easting
 module _ (c : After-taken_at-taken) where
   abbrev ls : After-l_of-l
-  ls = (goal.at.After-taken_at-taken c).After-position-arg-1
+  ls = (goal.at.After-taken_at-taken c).After-l_of-l
 
   abbrev start : Start
-  start = (goal.at.After-taken_at-taken c).After-shared_slice_known-1
+  start = (goal.at.After-taken_at-taken c).Start
 
   north_is : offset_of c.position-north.result ≡ nat_abs (from_first start.args.s.now start.args.latitude)
-  north_is = c.position-north.ensures.1 ∙ t_is (goal.at.After-taken_at-taken c).After-l_of-l
+  north_is = c.position-north.ensures.1 ∙ t_is (goal.at.After-taken_at-taken c).After-from_first-t
 
   easting_is : to_z w64 (of_z w64 start.args.o.false_easting) ≡ false_easting_of start.args.s.now
-  easting_is = (easting_held _ start.pre.0.passes _ start.pre.1).is
+  easting_is = (easting_held _ start.requires.0.passes _ start.requires.1).is
 
 pub worked-requires : goal.worked-requires
 worked-requires c =
-    let taken = (goal.at.worked-requires c).After-taken_at-taken in
-    let p = (start taken).requires in
-    workable-as_read _ p.0.passes _ (latitude-within _ p.0.passes _ p.2) _ (longitude-within _ _ p.3) taken.taken_at-taken.ensures (north_is taken) taken.size.ensures (easting_is taken) (l_is (ls taken))
+    let p = (start (goal.at.worked-requires c).After-taken_at-taken).requires in
+    workable-as_read _ p.0.passes _ (latitude-within _ p.0.passes _ p.2) _ (longitude-within _ _ p.3) c.taken_at-taken.ensures (north_is (goal.at.worked-requires c).After-taken_at-taken) c.size.ensures (easting_is (goal.at.worked-requires c).After-taken_at-taken) (l_is (ls (goal.at.worked-requires c).After-taken_at-taken))
 
 pub returns : goal.returns
 returns c =
-    let taken = (goal.at.returns c).After-taken_at-taken in
-    c.worked.ensures ∙ plane-worked _ _ _ taken.taken_at-taken.ensures (north_is taken) taken.size.ensures (easting_is taken) (l_is (ls taken))
+    c.worked.ensures ∙ plane-worked _ _ _ c.taken_at-taken.ensures (north_is (goal.at.returns c).After-taken_at-taken) c.size.ensures (easting_is (goal.at.returns c).After-taken_at-taken) (l_is (ls (goal.at.returns c).After-taken_at-taken))
 
 pub from_first-t-requires : goal.from_first-t-requires
 from_first-t-requires c = (c.requires.0.passes, c.requires.1)
@@ -74,7 +72,7 @@ pub l_of-l-requires : goal.l_of-l-requires
 l_of-l-requires c = (c.requires.0.passes, c.requires.1)
 
 pub position-north-requires : goal.position-north-requires
-position-north-requires c = let p = c.requires in (latitude-placed _ _ p.0, lit≤ tt, minute_step _ p.0.passes, rw (t_is (goal.at.position-north-requires c).After-l_of-l) (latitude-within _ p.0.passes _ p.2))
+position-north-requires c = let p = c.requires in (latitude-placed _ _ p.0, lit≤ tt, minute_step _ p.0.passes, rw (t_is (goal.at.position-north-requires c).After-from_first-t) (latitude-within _ p.0.passes _ p.2))
 
 pub size-requires : goal.size-requires
 size-requires c = bits_below c.l_of-l.result c.l_of-l.type_inv c.l_of-l.ensures.1 tt

@@ -31,10 +31,7 @@ y_held c = record { is = search rules; size = c.y_of-y.ensures.1 }
 pub returns : goal.returns
 unfolding worked_of
 returns c =
-    let ys = (goal.at.returns c).After-y_of-y in
-    let xs = (goal.at.returns c).After-x_of-x in
-    let start = (goal.at.returns c).Start in
-    rw ((cast (x_held xs) tt).is, (cast (y_held ys) tt).is, xs.x_of-x.ensures.0, ys.y_of-y.ensures.0, xs.x_of-x.ensures.2, ys.y_of-y.ensures.2, size_is (goal.at.returns c).After-size, l_is start, easting_is start)
+    rw ((cast (x_held (goal.at.returns c).After-x_of-x) tt).is, (cast (y_held (goal.at.returns c).After-y_of-y) tt).is, c.x_of-x.ensures.0, c.y_of-y.ensures.0, c.x_of-x.ensures.2, c.y_of-y.ensures.2, size_is (goal.at.returns c).After-size, l_is (goal.at.returns c).Start, easting_is (goal.at.returns c).Start)
 
 pub x_of-x-requires : goal.x_of-x-requires
 x_of-x-requires c = rw (l_is c, easting_is c) c.requires

@@ -32,13 +32,12 @@ size_is : (c : After-size) → c.size.result ≡ nat_abs c.args.l
 size_is c = c.size.ensures ∙ ap nat_abs (l_is (goal.at.After-size c).Start)
 
 pub size_of_x-x-requires : goal.size_of_x-x-requires
-size_of_x-x-requires c = let sized = (goal.at.size_of_x-x-requires c).After-size in x_asks _ _ _ sized.requires (size_is sized) (a_is (goal.at.size_of_x-x-requires c).Start) (b_is (goal.at.size_of_x-x-requires c).Start)
+size_of_x-x-requires c = x_asks _ _ _ c.requires (size_is (goal.at.size_of_x-x-requires c).After-size) (a_is (goal.at.size_of_x-x-requires c).Start) (b_is (goal.at.size_of_x-x-requires c).Start)
 
 -- the size of x', and x', as they were worked
 x_is : (c : After-size_of_x-x) → let a = c.args in pos c.size_of_x-x.result.value ≡ size_of_x a.f.h.value (nat_abs a.l) a.f.a.value a.f.b.value
 x_is c =
-    let start = (goal.at.After-size_of_x-x c).Start in
-    c.size_of_x-x.ensures.0 ∙ rw (size_is (goal.at.After-size_of_x-x c).After-size, a_is start, b_is start)
+    c.size_of_x-x.ensures.0 ∙ rw (size_is (goal.at.After-size_of_x-x c).After-size, a_is (goal.at.After-size_of_x-x c).Start, b_is (goal.at.After-size_of_x-x c).Start)
 
 size_held : (c : After-size_of_x-x)
     → let a = c.args in
@@ -51,9 +50,7 @@ x_held : (c : After-with_sign)
     → let a = c.args in
     Holds w64 (of_z w64 c.with_sign.result) (with_sign a.l (size_of_x a.f.h.value (nat_abs a.l) a.f.a.value a.f.b.value)) 61_204_000
 x_held c =
-    let sized = (goal.at.After-with_sign c).After-size_of_x-x in
-    let start = (goal.at.After-with_sign c).Start in
-    bits_hold c.with_sign.type_inv (c.with_sign.ensures ∙ rw (l_is start, (size_held sized).is)) (rw size_with_sign (size_held sized).size)
+    bits_hold c.with_sign.type_inv (c.with_sign.ensures ∙ rw (l_is (goal.at.After-with_sign c).Start, (size_held (goal.at.After-with_sign c).After-size_of_x-x).is)) (rw size_with_sign (size_held (goal.at.After-with_sign c).After-size_of_x-x).size)
 
 easting_held : (c : Start) → Holds w64 (of_z w64 c.args.easting) c.args.easting 100_000_000
 easting_held c = held c.ranges.easting c.requires.easting-most
@@ -61,10 +58,8 @@ easting_held c = held c.ranges.easting c.requires.easting-most
 pub returns : goal.returns
 unfolding worked_x worked_x_half
 returns c =
-    let signed = (goal.at.returns c).After-with_sign in
-    let start = (goal.at.returns c).Start in
-    let whole = sum (x_held signed) (easting_held start) tt in
-    (whole.is, rw whole.is whole.size, rw (c.size_of_x-x.ensures.1, size_is (goal.at.returns c).After-size, a_is start, b_is start))
+    let whole = sum (x_held (goal.at.returns c).After-with_sign) (easting_held (goal.at.returns c).Start) tt in
+    (whole.is, rw whole.is whole.size, rw (c.size_of_x-x.ensures.1, size_is (goal.at.returns c).After-size, a_is (goal.at.returns c).Start, b_is (goal.at.returns c).Start))
 
 pub size-requires : goal.size-requires
 size-requires c = rw (l_is c) (lt_of_le_of_lt c.requires.l_most (lit< tt))

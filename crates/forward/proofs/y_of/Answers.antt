@@ -18,8 +18,7 @@ y0_is c = search rules
 
 pub rise-rise-requires : goal.rise-rise-requires
 rise-rise-requires c =
-    let start = (goal.at.rise-rise-requires c).Start in
-    (start.requires.0, rw c.q_of-q.ensures.0 (q_most _ start.requires.3), rw (c_is start) start.requires.1)
+    (c.requires.0, rw c.q_of-q.ensures.0 (q_most _ c.requires.3), rw (c_is (goal.at.rise-rise-requires c).Start) c.requires.1)
 
 -- y0 and the rise, as they are added
 y0_held : (c : Start) → Holds w64 (of_z w64 c.args.f.y0.value) c.args.f.y0.value 999_999_999
@@ -27,20 +26,17 @@ y0_held c = record { is = y0_is c; size = c.requires.2 }
 
 rise_held : (c : After-rise-rise) → let a = c.args in Holds w64 (of_z w64 c.rise-rise.result.value) (rise a.f.v.value (q_of a.size) a.f.c.value) 504_200
 rise_held c =
-    let start = (goal.at.After-rise-rise c).Start in
     let bits : to_z w64 (of_z w64 c.rise-rise.result.value) ≡ c.rise-rise.result.value = search rules in
     record {
-      is = bits ∙ c.rise-rise.ensures.0 ∙ rw (c.q_of-q.ensures.0, c_is start);
-      size = rise-most _ _ _ start.requires.0 (q_most _ start.requires.3) start.requires.1;
+      is = bits ∙ c.rise-rise.ensures.0 ∙ rw (c.q_of-q.ensures.0, c_is (goal.at.After-rise-rise c).Start);
+      size = rise-most _ _ _ c.requires.0 (q_most _ c.requires.3) c.requires.1;
     }
 
 pub returns : goal.returns
 unfolding worked_y worked_y_half
 returns c =
-    let worked = (goal.at.returns c).After-rise-rise in
-    let start = (goal.at.returns c).Start in
-    let whole = sum (y0_held start) (rise_held worked) tt in
-    (whole.is, rw whole.is whole.size, rw (worked.rise-rise.ensures.1, worked.q_of-q.ensures.1, worked.q_of-q.ensures.0, c_is start))
+    let whole = sum (y0_held (goal.at.returns c).Start) (rise_held (goal.at.returns c).After-rise-rise) tt in
+    (whole.is, rw whole.is whole.size, rw (c.rise-rise.ensures.1, c.q_of-q.ensures.1, c.q_of-q.ensures.0, c_is (goal.at.returns c).Start))
 
 pub overflow_add-result : goal.overflow_add-result
 overflow_add-result c = sum_fits (y0_held (goal.at.overflow_add-result c).Start) (rise_held (goal.at.overflow_add-result c).After-rise-rise) tt
