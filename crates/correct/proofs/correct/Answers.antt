@@ -22,7 +22,9 @@ placed : (c : After-place_of-place) → Placed c.args.sheet.now latitude c.place
 placed c = record { contents = pass (goal.at.After-place_of-place c).Else-number-ne0; place = c.place_of-place.ensures; least = lit≤ tt; most = lit≤ tt }
 
 pub returns-then-number-ne0 : goal.returns-then-number-ne0
-returns-then-number-ne0 c = contents_refuse _ _ _ _ c.contents-number.ensures c.if-number-ne0.true
+returns-then-number-ne0 c =
+    let both = contents_refuse _ _ _ _ c.contents-number.ensures c.if-number-ne0.true in
+    record { answer = both.0; memory = both.1 }
 
 pub place_of-place-requires : goal.place_of-place-requires
 place_of-place-requires c = long_enough _ (pass c)
@@ -47,14 +49,11 @@ correct_body-requires c = (rows_there _ latitude _ (placed (goal.at.correct_body
 
 pub returns : goal.returns
 returns c =
-    let start = c.before.before.before.before.before.before in
-    let a = start.args in
+    let a = c.args in
     let minute : to_z w32 (of_z w32 a.minute) ≡ a.minute = search rules in
     let y0 : to_z w32 (of_z w32 a.y0) ≡ a.y0 = search rules in
     let h : to_z w32 (of_z w32 a.h) ≡ a.h = search rules in
     let v : to_z w32 (of_z w32 a.v) ≡ a.v = search rules in
     let last : to_z w32 (of_z w32 a.a) ≡ a.a = search rules in
-    let same : figures (to_z w32 (of_z w32 a.y0)) (to_z w32 (of_z w32 a.h)) (to_z w32 (of_z w32 a.v)) (to_z w32 (of_z w32 a.a)) ≡ figures a.y0 a.h a.v a.a = rw (y0, h, v, last) in (
-      sheet_number _ _ _ _ (placed (goal.at.returns c).After-place_of-place) _ (c.correct_body.ensures.0 ∙ rw (minute, same)),
-      sheet_after _ _ _ _ (placed (goal.at.returns c).After-place_of-place) _ (c.correct_body.ensures.1 ∙ rw (minute, same)),
-    )
+    let same : figures (to_z w32 (of_z w32 a.y0)) (to_z w32 (of_z w32 a.h)) (to_z w32 (of_z w32 a.v)) (to_z w32 (of_z w32 a.a)) ≡ figures a.y0 a.h a.v a.a = rw (y0, h, v, last) in
+    record { answer = sheet_number _ _ _ _ (placed (goal.at.returns c).After-place_of-place) _ (c.correct_body.ensures.answer ∙ rw (minute, same)); memory = sheet_after _ _ _ _ (placed (goal.at.returns c).After-place_of-place) _ (c.correct_body.ensures.memory ∙ rw (minute, same)) }

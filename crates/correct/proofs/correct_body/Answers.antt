@@ -28,21 +28,19 @@ named : (c : After-named_row-r) → c.named_row-r.result ≡ named_row c.args.b.
 named c = c.named_row-r.ensures.0 ∙ ap (named_row _) (same (goal.at.After-named_row-r c).After-judge-judged)
 
 pub returns-then-judged-ne0 : goal.returns-then-judged-ne0
-returns-then-judged-ne0 c = (judged (goal.at.returns-then-judged-ne0 c).After-judge-judged, refused-stays _ _ _ _ _ (judged (goal.at.returns-then-judged-ne0 c).After-judge-judged) c.if-judged-ne0.true)
+returns-then-judged-ne0 c = record { answer = judged (goal.at.returns-then-judged-ne0 c).After-judge-judged; memory = refused-stays _ _ _ _ _ (judged (goal.at.returns-then-judged-ne0 c).After-judge-judged) c.if-judged-ne0.true }
 
 pub returns : goal.returns
 returns c =
-    (judged (goal.at.returns c).After-judge-judged, accepted_writes _ _ _ _ _ (judged (goal.at.returns c).After-judge-judged) c.if-judged-ne0.false _ _ (named (goal.at.returns c).After-named_row-r) c.rewrite.ensures)
+    record { answer = judged (goal.at.returns c).After-judge-judged; memory = accepted_writes _ _ _ _ _ (judged (goal.at.returns c).After-judge-judged) c.if-judged-ne0.false _ _ (named (goal.at.returns c).After-named_row-r) c.rewrite.ensures }
 
 pub named_row-r-requires : goal.named_row-r-requires
 named_row-r-requires c =
-    let start = c.before.before.before.before.before in
-    (start.requires.0, start.requires.1, ap (has_row _ _) (same (goal.at.named_row-r-requires c).After-judge-judged) ∙ (keeps c).row)
+    (c.requires.0, c.requires.1, ap (has_row _ _) (same (goal.at.named_row-r-requires c).After-judge-judged) ∙ (keeps c).row)
 
 pub rewrite-requires : goal.rewrite-requires
 rewrite-requires c =
-    let start = c.before.before.before.before.before.before.before in
     let k = keeps (goal.at.rewrite-requires c).Else-judged-ne0 in
-    let before = ap (λ (r : ℕ). bound_before start.args.b.now r start.args.f) (named (goal.at.rewrite-requires c).After-named_row-r) ∙ k.before in
-    let after = ap (λ (r : ℕ). bound_after start.args.b.now start.args.n r start.args.f) (named (goal.at.rewrite-requires c).After-named_row-r) ∙ k.after in
-    (start.requires.1, c.named_row-r.ensures.1, k.range, before, after)
+    let before = ap (λ (r : ℕ). bound_before c.args.b.now r c.args.f) (named (goal.at.rewrite-requires c).After-named_row-r) ∙ k.before in
+    let after = ap (λ (r : ℕ). bound_after c.args.b.now c.args.n r c.args.f) (named (goal.at.rewrite-requires c).After-named_row-r) ∙ k.after in
+    (c.requires.1, c.named_row-r.ensures.1, k.range, before, after)
