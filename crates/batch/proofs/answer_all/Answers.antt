@@ -7,8 +7,6 @@ use Rattle.batch.proofs.Turns.{written, counted, room}
 use Rattle.batch.proofs.answer_all.Goals as goal
 
 -- ---- what it answers
-pub shape_of-answers : goal.shape_of-answers
-shape_of-answers c = search rules
 
 pub returns : goal.returns
 returns c =
@@ -28,7 +26,7 @@ loop-i-preserved c =
     let l = c.loop-i in
     let fits = room _ _ c.requires.1 in (
       search rules,
-      t.auto.1.1.1.1.0 ∙ l.invariant.1,
+      t.auto.answers ∙ l.invariant.1,
       t.ensures.2 ∙ rw l.invariant.2 (written c.args.s.now c.args.points.now c.args.answers.now l.i (omega (arith, fits.1))),
       rw (l.invariant.3, t.ensures.0) (counted c.args.s.now c.args.points.now l.i),
       omega (arith, t.ensures.1),

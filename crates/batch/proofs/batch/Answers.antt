@@ -7,8 +7,6 @@ use Rattle.batch.proofs.Turns.{refused_17, refused_check, all_answered}
 use Rattle.batch.proofs.batch.Goals as goal
 
 -- ---- what it answers
-pub shape_of-answers : goal.shape_of-answers
-shape_of-answers c = search rules
 
 pub returns-then-not-is_taken : goal.returns-then-not-is_taken
 returns-then-not-is_taken c =

@@ -11,7 +11,6 @@ use lib.Seq.{sets}
 use mir.Syntax.{w32}
 use mir.Val.{to_z, of_z}
 use mir.ValLaws.{to_z-of_z, to_z_pos}
-use borrow.Author.Rules.{rules}
 use Rattle.batch.proofs.put.Goals as goal
 use Rattle.batch.proofs.put.Goals.{Start}
 
@@ -36,21 +35,3 @@ returns-then-number-eq0 c = (rw (eq-eqb c.args.number 0 c.if-number-eq0.true), l
 
 pub returns-else-number-eq0 : goal.returns-else-number-eq0
 returns-else-number-eq0 c = (rw (ne_eqb c.args.number 0 c.if-number-eq0.false), lit≤ tt, stored (goal.at.returns-else-number-eq0 c).Start)
-
-pub put_spec : {M : Type 1} → statement M
-put_spec =
-    tie.close
-    (tie.spec
-    (λ c. search rules)
-    (λ c. search rules)
-    (λ c. search rules)
-    (λ c. search rules)
-    (λ c. search rules)
-    bounds-answers-at-2
-    (λ c. search rules)
-    (λ c. search rules)
-    bounds-answers-at-3
-    (λ c. search rules)
-    returns-then-number-eq0
-    (λ c. search rules)
-    returns-else-number-eq0)

@@ -11,7 +11,7 @@ x c = c.args.x
 
 -- what owning an `f64` tells: the format holds it
 held : (c : Start) → T (fits binary64 (x c))
-held c = subst T (sym c.well-formed.0.1) tt
+held c = subst T (sym c.well_formed.0.1) tt
 
 pub returns-then-x : goal.returns-then-x
 returns-then-x c = is_nan_lem (x (goal.at.returns-then-x c).Start) c.if-x.true

@@ -26,7 +26,7 @@ pub returns-then-form-eq-CONVERGENCE : goal.returns-then-form-eq-CONVERGENCE
 returns-then-form-eq-CONVERGENCE c =
     let x = to_z-of_z {w = w32} {z = c.args.l.first} (sfits_of c.struct_told-then-form-eq-CONVERGENCE-1.given.1.0.1) in
     let y = to_z-of_z {w = w32} {z = c.args.l.second} (sfits_of c.struct_told-then-form-eq-CONVERGENCE-2-1.given.1.1.0.1) in
-    let u = to_z-of_z {w = w32} {z = c.convergence-r.result.convergence-r} (sfits_of c.struct_told-then-form-eq-CONVERGENCE-3-1.given.1.0.1) in
+    let u = to_z-of_z {w = w32} {z = c.convergence-r.result.convergence} (sfits_of c.struct_told-then-form-eq-CONVERGENCE-3-1.given.1.0.1) in
     let v = to_z-of_z {w = w32} {z = c.convergence-r.result.scale} (sfits_of c.struct_told-then-form-eq-CONVERGENCE-3-1.given.1.1.0.1) in
     rw (u, v) (grid-values c.args.s.now c.args.l c.requires.passes _ _ x y c.convergence-r.result c.if-form-eq-FORWARD.false c.if-form-eq-INVERSE.false c.if-form-eq-CONVERGENCE.true c.convergence-r.ensures)
 
