@@ -202,7 +202,27 @@ fn read_part<R: Read>(reader: &mut R, buf: &mut [u8], from: usize) -> Result<usi
     Err(Error::from(ErrorKind::Interrupted))
 }
 
+// Reads until the buffer is full, the input ends or a read fails; how many bytes came.
+pub fn read_full<R: Read>(reader: &mut R, buf: &mut [u8]) -> usize
+    ensures { result ≤ length buf.new }
+{
+    let mut done = 0;
+    while done < buf.len() {
+        let count = read_once(reader, buf, done).unwrap_or(0);
+        if count == 0 {
+            return done;
+        }
+        done += count;
+    }
+    done
+}
+
 // ---- a file
+
+// Opens the file of the name, to be read.
+pub fn open(rt: &HostRuntime, name: &[u8]) -> Result<File> {
+    File::open(rt, path_of(name)?)
+}
 
 // The file's bytes in the buffer, as far as it reaches.
 fn read_sheet(file: &mut File, sheet: &mut [u8]) -> Result<usize>
@@ -223,7 +243,7 @@ fn read_sheet(file: &mut File, sheet: &mut [u8]) -> Result<usize>
 fn read_named(rt: &HostRuntime, name: &[u8], sheet: &mut [u8]) -> Result<usize>
     ensures { IfOk result (λ n. n ≤ length sheet.new) }
 {
-    let mut file = File::open(rt, path_of(name)?)?;
+    let mut file = open(rt, name)?;
     read_sheet(&mut file, sheet)
 }
 
