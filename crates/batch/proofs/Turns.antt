@@ -81,7 +81,7 @@ module _ (m k : ℕ) where
 
 -- ---- a batch's answer, and the memory after it
 module _ (s : List ℕ) (points old : List ℤ) where
-  pub refused_17 : (f : Bool) → f ≡ taken (length points) (length old) → not f ≡ true → (batched 17 0 ≡ batch_of s points old) × (old ≡ answers_of s points old)
+  pub refused_17 : (f : Bool) → f ≡ taken (length points) (length old) → f ≡ false → (batched 17 0 ≡ batch_of s points old) × (old ≡ answers_of s points old)
   unfolding batch_of answers_of
   refused_17 f h e =
       let r : batched 17 0 ≡ batch_of s points old = stop _ f (batched 17 0) _ h e in
@@ -90,14 +90,14 @@ module _ (s : List ℕ) (points old : List ℤ) where
       nonzero : ◌≡◌ {A = ℕ} 17 0 → ⊥
       nonzero z = omega arith
 
-  pub refused_check : (f : Bool) (n : ℕ) → f ≡ taken (length points) (length old) → not f ≡ false → n ≡ (check_of s).number → (n ≡ 0 → ⊥)
+  pub refused_check : (f : Bool) (n : ℕ) → f ≡ taken (length points) (length old) → f ≡ true → n ≡ (check_of s).number → (n ≡ 0 → ⊥)
       → (batched n 0 ≡ batch_of s points old) × (old ≡ answers_of s points old)
   unfolding batch_of answers_of
   refused_check f n h e m z =
       let r : batched n 0 ≡ batch_of s points old = go _ f (batched 17 0) (batched n 0) _ h e (refused (λ b. b.number) (batched (check_of s).number 0) _ (batched n 0) (rw m) z) in
       (r, is_not _ 0 _ _ old (λ k. z (ap (λ b. b.number) r ∙ k)) refl)
 
-  pub all_answered : (f : Bool) (n count : ℕ) (new : List ℤ) → f ≡ taken (length points) (length old) → not f ≡ false → n ≡ (check_of s).number → n ≡ 0
+  pub all_answered : (f : Bool) (n count : ℕ) (new : List ℤ) → f ≡ taken (length points) (length old) → f ≡ true → n ≡ (check_of s).number → n ≡ 0
       → count ≡ answered s points (pairs points) → new ≡ after_pairs s points (pairs points) old
       → (batched 0 count ≡ batch_of s points old) × (new ≡ answers_of s points old)
   unfolding batch_of answers_of

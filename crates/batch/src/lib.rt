@@ -12,7 +12,7 @@ use entries::Places;
 use tables::Origin;
 
 // A batch's answer: its number, and the count of its points with number 0.
-#[derive(Drop)]
+#[derive(Clone, Copy)]
 pub struct Batched {
     pub number: u32,
     pub count: u32,

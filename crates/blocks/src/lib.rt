@@ -12,14 +12,14 @@ ghost use Rattle.blocks.specs.Blocks.{answers_of, Answered};
 use entries::Places;
 
 // How many bytes of the line that has not ended are kept at the buffer's front, and how many bytes of answers stand at the output's.
-#[derive(Drop)]
+#[derive(Clone, Copy)]
 pub struct Done {
     pub kept: usize,
     pub at: usize,
 }
 
 // Where the line that has not ended begins, and how many bytes of answers stand at the output's front.
-#[derive(Drop)]
+#[derive(Clone, Copy)]
 struct Lines {
     rest: usize,
     at: usize,

@@ -16,7 +16,7 @@ use door::{Answer, Point};
 // ---- what the functions answer
 
 #[repr(C)]
-#[derive(Drop)]
+#[derive(Clone, Copy)]
 pub struct CheckAnswer {
     pub number: u32,
     pub kind: usize,
@@ -25,7 +25,7 @@ pub struct CheckAnswer {
 
 // x and y in 0.01 ft. half, here and below: some rounding on the way to the values met a half; not in a refusal.
 #[repr(C)]
-#[derive(Drop)]
+#[derive(Clone, Copy)]
 pub struct PlaneAnswer {
     pub number: u32,
     pub x: i32,
@@ -35,7 +35,7 @@ pub struct PlaneAnswer {
 
 // Latitude and west longitude in 0.001″.
 #[repr(C)]
-#[derive(Drop)]
+#[derive(Clone, Copy)]
 pub struct GeographicAnswer {
     pub number: u32,
     pub latitude: i32,
@@ -45,7 +45,7 @@ pub struct GeographicAnswer {
 
 // Convergence in 0.1″, scale in 10⁻⁷.
 #[repr(C)]
-#[derive(Drop)]
+#[derive(Clone, Copy)]
 pub struct GridAnswer {
     pub number: u32,
     pub convergence: i32,
@@ -54,14 +54,14 @@ pub struct GridAnswer {
 }
 
 #[repr(C)]
-#[derive(Drop)]
+#[derive(Clone, Copy)]
 pub struct TouchAnswer {
     pub number: u32,
     pub touched: bool,
 }
 
 #[repr(C)]
-#[derive(Drop)]
+#[derive(Clone, Copy)]
 pub struct BatchAnswer {
     pub number: u32,
     pub count: u32,
@@ -69,7 +69,7 @@ pub struct BatchAnswer {
 
 // The tools' point, two counts.
 #[repr(C)]
-#[derive(Drop)]
+#[derive(Clone, Copy)]
 pub struct DoorPoint {
     pub first: f64,
     pub second: f64,
@@ -77,7 +77,7 @@ pub struct DoorPoint {
 
 // The tools' answer: number 0 and two counts, or a refusal number and zeros. C has no enum that carries values.
 #[repr(C)]
-#[derive(Drop)]
+#[derive(Clone, Copy)]
 pub struct DoorAnswer {
     pub number: u32,
     pub first: f64,

@@ -4,7 +4,7 @@ use mathlib.Core.Bool.{Bool, true, false, not, ◌&&◌}
 use mathlib.Core.List.{List, []}
 use Prim.Native.Nat.{ℕ}
 use native.Mathlib.Omega.{arith}
-use borrow.Author.Tests.{not-true, not-false, eqb-true, eq-eqb}
+use borrow.Author.Tests.{eqb-true, eq-eqb}
 use lib.Dec.{eqb}
 use Rattle.refusals.specs.Tests.{same_as}
 use Rattle.refusals.proofs.Ranges.{same_true, same_self}
@@ -16,13 +16,13 @@ use Rattle.compared.specs.Compared.{same_values, changes, change_line, change_te
 
 -- ---- what is written
 module _ (n : ℕ) (v w : Values) (changed : Bool) where
-  pub change_none : not changed ≡ true → [] ≡ change_text changed n v w
+  pub change_none : changed ≡ false → [] ≡ change_text changed n v w
   unfolding change_text
-  change_none h = rw (not-true changed h)
+  change_none h = rw h
 
-  pub change_some : not changed ≡ false → change_line n v w ≡ change_text changed n v w
+  pub change_some : changed ≡ true → change_line n v w ≡ change_text changed n v w
   unfolding change_text
-  change_some h = rw (not-false changed h)
+  change_some h = rw h
 
 pub wrote_none : (l : List ℕ) (at : ℕ) → Wrote l l at at []
 wrote_none l at = record { place = omega arith; bytes = refl }

@@ -14,14 +14,14 @@ use lines::Values;
 use point_line::BLANK;
 
 // Where each sheet's bodies lie.
-#[derive(Drop)]
+#[derive(Clone, Copy)]
 pub struct BothPlaces {
     pub old: Places,
     pub new: Places,
 }
 
 // What a line is on two sheets: whether it is of a known form, whether its answer changes, whether the rows in which the sheets differ may touch it, and the place after what was written.
-#[derive(Drop)]
+#[derive(Clone, Copy)]
 pub struct Compared {
     pub point: bool,
     pub changed: bool,

@@ -24,7 +24,7 @@ within-true least n most e =
     (leb-true least n h.0, leb-true n most h.1)
 
 -- a kind that was found among the kinds is one
-pub known_below : (f : Form) (kind : ℕ) (b : Bool) → Small f → b ≡ within 1 kind f.kinds → not b ≡ false → kind ≤ most_kinds
+pub known_below : (f : Form) (kind : ℕ) (b : Bool) → Small f → b ≡ within 1 kind f.kinds → b ≡ true → kind ≤ most_kinds
 known_below f kind b small t p = le_trans (within-true 1 kind f.kinds (kept (within 1 kind f.kinds) b t p)).1 small.few
 
 -- an entry with no fault names a kind that there is
@@ -44,10 +44,10 @@ sized-true s e =
     let l = within-true (least_bytes (form_of s)) (length s) most_bytes h.0 in
     (l.0, l.1, eqb-true (length s % 4) 0 h.1)
 
-pub long : (s : List ℕ) (b : Bool) → b ≡ sized s → not b ≡ false → least_bytes (form_of s) ≤ length s
+pub long : (s : List ℕ) (b : Bool) → b ≡ sized s → b ≡ true → least_bytes (form_of s) ≤ length s
 long s b t p = (sized-true s (kept (sized s) b t p)).0
 
-pub has_word : (s : List ℕ) (b : Bool) → b ≡ sized s → not b ≡ false → 4 ≤ length s
+pub has_word : (s : List ℕ) (b : Bool) → b ≡ sized s → b ≡ true → 4 ≤ length s
 has_word s b t p = some_word s (long s b t p)
 
 -- a sheet without a word 0 is none

@@ -13,7 +13,7 @@ use refusals::Fault;
 
 // The check's answer. A pass is 0 0 0. A fault of length, word 0 or contents has kind 0 and, as row, the entry's place counted from 1: 0 for length and word 0, one past the last entry
 // for the end.
-#[derive(Drop)]
+#[derive(Clone, Copy)]
 pub struct Verdict {
     pub number: u32,
     pub kind: usize,

@@ -13,7 +13,7 @@ use entries::Places;
 use rounding::{Rounded, RoundedSize};
 
 // The grid at a point: the convergence Δα in 0.1″, the scale k in 10⁻⁷, and whether some rounding on the way to them met a half. A refusal has its number, zeros and no half.
-#[derive(Drop)]
+#[derive(Clone, Copy)]
 pub struct Grid {
     pub number: u32,
     pub convergence: i32,
@@ -22,7 +22,7 @@ pub struct Grid {
 }
 
 // The figures that the grid at a point is worked from, as they were read: M at y, k at the size of x'.
-#[derive(Drop)]
+#[derive(Clone, Copy)]
 pub struct Taken {
     pub m: RoundedSize,
     pub k: Rounded,

@@ -5,7 +5,7 @@ ghost use Rattle.std.specs.Prelude.{◌≡◌};
 ghost use Rattle.counts.specs.Whole.{whole_of};
 
 // The count that a float is; or no count.
-#[derive(Drop)]
+#[derive(Clone, Copy)]
 pub enum Whole {
     Count(i32),
     No,

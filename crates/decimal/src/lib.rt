@@ -8,14 +8,14 @@ ghost use Rattle.decimal.specs.Writing.{digits_needed, spelled, size_text, numbe
 ghost use Rattle.decimal.specs.Counting.{Counting};
 
 // Digits that were read: how many, and their value. None have count 0.
-#[derive(Drop)]
+#[derive(Clone, Copy)]
 pub struct Digits {
     pub count: usize,
     pub value: u64,
 }
 
 // A number that was read: how many bytes it takes, and its value. None has length 0.
-#[derive(Drop)]
+#[derive(Clone, Copy)]
 pub struct Number {
     pub length: usize,
     pub value: i32,

@@ -3,7 +3,6 @@ use mathlib.Core.Path.{◌≡◌, sym, ◌∙◌}
 use mathlib.Core.Bool.{Bool, true, false, not, ◌&&◌}
 use mathlib.Core.List.{List}
 use Prim.Native.Nat.{ℕ, ◌*◌}
-use borrow.Author.Tests.{not-true, not-false}
 use lib.IntN.{ℤ}
 use Rattle.rounding.proofs.Tests.{both}
 use Rattle.words.specs.Words.{word_at}
@@ -19,26 +18,26 @@ use Rattle.differing.specs.Differing.{same_figures, row_differs, differs_at, is_
 
 -- ---- one row: t is the test of its minute
 module _ (b c : List ℕ) (m i : ℕ) (minute : ℤ) (e : minute ≡ word_at b (width_of latitude * i)) (t : Bool) (h : t ≡ has_row c m minute) where
-  pub not_there : not t ≡ true → true ≡ row_differs b c m i
+  pub not_there : t ≡ false → true ≡ row_differs b c m i
   unfolding row_differs need
-  not_there n = rw (← e, ← h, not-true t n)
+  not_there n = rw (← e, ← h, n)
 
-  pub there : not t ≡ false → has_row c m minute ≡ true
-  there n = sym h ∙ not-false t n
+  pub there : t ≡ true → has_row c m minute ≡ true
+  there n = sym h ∙ n
 
-  pub as-figures : not t ≡ false → (j : ℕ) (f g : Figures) (r : Bool) → j ≡ named_row c minute → f ≡ figures_at b i → g ≡ figures_at c j → r ≡ same_figures f g → not r ≡ row_differs b c m i
+  pub as-figures : t ≡ true → (j : ℕ) (f g : Figures) (r : Bool) → j ≡ named_row c minute → f ≡ figures_at b i → g ≡ figures_at c j → r ≡ same_figures f g → not r ≡ row_differs b c m i
   unfolding row_differs need
-  as-figures n j f g r k u v q = rw (← e, ← h, not-false t n, ← k, ← u, ← v, q)
+  as-figures n j f g r k u v q = rw (← e, ← h, n, ← k, ← u, ← v, q)
 
 -- ---- the minute's row: t is the test of it, minute' has the bits of the minute
 module _ (b : List ℕ) (n : ℕ) (c : List ℕ) (m : ℕ) (minute minute' : ℤ) (same : minute' ≡ minute) (t : Bool) (h : t ≡ has_row b n minute') where
-  pub no_row : not t ≡ true → false ≡ differs_at b n c m minute
+  pub no_row : t ≡ false → false ≡ differs_at b n c m minute
   unfolding differs_at
-  no_row e = rw (← same, ← h, not-true t e)
+  no_row e = rw (← same, ← h, e)
 
-  pub of_row : not t ≡ false → (i : ℕ) (r : Bool) → i ≡ named_row b minute' → r ≡ row_differs b c m i → r ≡ differs_at b n c m minute
+  pub of_row : t ≡ true → (i : ℕ) (r : Bool) → i ≡ named_row b minute' → r ≡ row_differs b c m i → r ≡ differs_at b n c m minute
   unfolding differs_at
-  of_row e i r k q = q ∙ rw (← same, ← h, not-false t e, k)
+  of_row e i r k q = q ∙ rw (← same, ← h, e, k)
 
 -- ---- of two sheets: the bodies as they are lent
 pub of_sheets : (s t b c : List ℕ) (n m : ℕ) (minute minute' : ℤ) (r : Bool) → b ≡ body_of s latitude → n ≡ rows_of s latitude → c ≡ body_of t latitude → m ≡ rows_of t latitude

@@ -8,7 +8,7 @@ ghost use Rattle.door.specs.Door.{counts_of, answer_of, to_plane, to_geographic,
 use counts::Whole;
 
 // The tools' point: latitude and west longitude in 0.001″, or x and y in 0.01 ft, in this order.
-#[derive(Drop)]
+#[derive(Clone, Copy)]
 pub struct Point {
     pub first: f64,
     pub second: f64,
@@ -16,14 +16,14 @@ pub struct Point {
 
 // What the tools get: two counts, in the order and the units that the function names, and whether some rounding on the way to them met a half; or a refusal number.
 // A count of zero is +0.
-#[derive(Drop)]
+#[derive(Clone, Copy)]
 pub enum Answer {
     Counts(f64, f64, bool),
     Refused(u32),
 }
 
 // The counts that a point's floats are; none where one of the two is no count.
-#[derive(Drop)]
+#[derive(Clone, Copy)]
 pub enum Pair {
     Of(i32, i32),
     No,

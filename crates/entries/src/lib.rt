@@ -7,14 +7,14 @@ ghost use Rattle.entries.specs.Layout.{Small, HasContents, entry_words, most_kin
 ghost use Rattle.entries.specs.Entries.{entry_word, kind_at, start_at, rows_at, step_at, span_at, named, entry_of, form_of, place_of, places_of};
 
 // A form of the contents: its kinds, each of which has one entry, and the words of an entry.
-#[derive(Drop)]
+#[derive(Clone, Copy)]
 pub struct Form {
     pub kinds: usize,
     pub words: usize,
 }
 
 // Where a kind's body lies: the word at which it starts, its rows, and the step from a row to the next, in the point's unit.
-#[derive(Drop)]
+#[derive(Clone, Copy)]
 pub struct Place {
     pub start: usize,
     pub rows: usize,
@@ -22,7 +22,7 @@ pub struct Place {
 }
 
 // Where each kind's body lies.
-#[derive(Drop)]
+#[derive(Clone, Copy)]
 pub struct Places {
     pub zone: Place,
     pub latitude: Place,

@@ -5,7 +5,7 @@ ghost use Rattle.std.specs.Prelude.{◌≡◌, ◌+◌, ◌≤◌};
 ghost use Rattle.fields.specs.Fields.{field_at, last_at};
 
 // A number in the line: whether it is there and ends as it has to, its value, and where the next one would stand. Where there is none, value and place say nothing.
-#[derive(Drop)]
+#[derive(Clone, Copy)]
 pub struct Field {
     pub found: bool,
     pub value: i32,

@@ -17,7 +17,7 @@ use rounding::{Rounded, RoundedSize};
 use tables::Origin;
 
 // A point on the plane: x and y in 0.01 ft, and whether some rounding on the way to them met a half. A refusal has its number, zeros and no half.
-#[derive(Drop)]
+#[derive(Clone, Copy)]
 pub struct Plane {
     pub number: u32,
     pub x: i32,
@@ -26,7 +26,7 @@ pub struct Plane {
 }
 
 // The figures that a point is worked from, as they were read: y0, H, V and a at its latitude, b and c at the size of L.
-#[derive(Drop)]
+#[derive(Clone, Copy)]
 pub struct Taken {
     pub y0: Rounded,
     pub h: RoundedSize,
@@ -37,7 +37,7 @@ pub struct Taken {
 }
 
 // b and c at one size of L.
-#[derive(Drop)]
+#[derive(Clone, Copy)]
 pub struct Longitude {
     pub b: Rounded,
     pub c: Rounded,

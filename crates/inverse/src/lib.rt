@@ -19,7 +19,7 @@ use rounding::{Rounded, RoundedSize};
 use tables::Origin;
 
 // A point on the earth: latitude and west longitude in 0.001″, and whether some rounding on the way to them met a half. A refusal has its number, zeros and no half.
-#[derive(Drop)]
+#[derive(Clone, Copy)]
 pub struct Geographic {
     pub number: u32,
     pub latitude: i32,
@@ -28,7 +28,7 @@ pub struct Geographic {
 }
 
 // What the reduced northing is worked from, as it was read: P at y, d at the size of x'.
-#[derive(Drop)]
+#[derive(Clone, Copy)]
 pub struct ForReduction {
     pub p: RoundedSize,
     pub d: Rounded,
@@ -119,7 +119,7 @@ fn seconds_past(s: &[u8], p: Places, reduced: i64, row: usize) -> RoundedSize
 }
 
 // What L is worked from, beside b, as it was read: H and a at the latitude's position.
-#[derive(Drop)]
+#[derive(Clone, Copy)]
 pub struct Taken {
     pub h: RoundedSize,
     pub a: Rounded,

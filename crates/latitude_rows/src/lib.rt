@@ -8,7 +8,7 @@ ghost use Rattle.latitude_rows.specs.Rows.{figures_at, differences_at, row_at, r
 use rules::{Differences, Figures};
 
 // A latitude row: its eight words.
-#[derive(Drop)]
+#[derive(Clone, Copy)]
 pub struct Row {
     pub minute: i32,
     pub figures: Figures,

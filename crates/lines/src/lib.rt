@@ -10,7 +10,7 @@ use entries::Places;
 use point_line::{BLANK, CONVERGENCE, FORWARD, INVERSE, Line};
 
 // What a line is answered: a number and two values, zeros where the number refuses.
-#[derive(Drop)]
+#[derive(Clone, Copy)]
 pub struct Values {
     pub number: u32,
     pub first: i32,

@@ -43,11 +43,11 @@ module _
     found_is : found ≡ (is_form (get_or line 0 0) && eqb (get_or line 1 0) 32 && (first_of line).found && (second_of line).found)
     found_is = rw (et, ef, eb, e1, second_is)
 
-    pub not_known : not found ≡ true → unknown ≡ line_of line
+    pub not_known : found ≡ false → unknown ≡ line_of line
     unfolding line_of
     not_known h = stop _ found unknown _ found_is h
 
-    pub known : not found ≡ false → asks form first.value second.value ≡ line_of line
+    pub known : found ≡ true → asks form first.value second.value ≡ line_of line
     unfolding line_of
     known h = go _ found unknown _ _ found_is h (rw (ef, e1, second_is))
 

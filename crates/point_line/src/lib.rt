@@ -7,7 +7,7 @@ ghost use Rattle.point_line.specs.PointLine.{is_form, line_of};
 pub use fields::BLANK;
 
 // What a line asks: the form's letter, and its two numbers. A line of no known form has form 0 and zeros.
-#[derive(Drop)]
+#[derive(Clone, Copy)]
 pub struct Line {
     pub form: u8,
     pub first: i32,

@@ -18,7 +18,7 @@ const INPUT: usize = 16_640;
 const OUTPUT: usize = 1_098_240;
 
 // What a turn left, or the first block, and whether the input has ended or its reading failed.
-#[derive(Drop)]
+#[derive(Clone, Copy)]
 struct State {
     done: Done,
     ended: bool,

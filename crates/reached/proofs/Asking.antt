@@ -5,7 +5,6 @@ use mathlib.Core.List.{List, [], ◌∷◌}
 use Prim.Native.Nat.{ℕ, ◌+◌, ◌*◌, ◌/◌, ◌≤◌}
 use native.Mathlib.Nat.{div-add-mod'}
 use native.Mathlib.Omega.{arith}
-use borrow.Author.Tests.{not-true, not-false}
 use lib.IntN.{ℤ, pos, nat_abs}
 use mir.Syntax.{w32}
 use mir.Val.{to_z}
@@ -53,11 +52,11 @@ unfolding touches
 none-touches s l minute n m = is_not l.form 71 _ _ _ n (is_not l.form 80 _ _ _ m refl)
 
 -- ---- where its row differs
-pub not-differing : (differs t : Bool) → not differs ≡ true → false ≡ differs && t
-not-differing differs t h = rw (not-true differs h)
+pub not-differing : (differs t : Bool) → differs ≡ false → false ≡ differs && t
+not-differing differs t h = rw h
 
-pub where_differing : (differs t r : Bool) → not differs ≡ false → r ≡ t → r ≡ differs && t
-where_differing differs t r h e = e ∙ rw (not-false differs h)
+pub where_differing : (differs t r : Bool) → differs ≡ true → r ≡ t → r ≡ differs && t
+where_differing differs t r h e = e ∙ rw h
 
 -- ---- the two minutes, on the sheet u; m is the lower
 pub at_two : (s t u : List ℕ) → (check_of s).number ≡ 0 → (check_of u).number ≡ 0 → (l : Line) (m : ℕ) → (m ≡ lower_minute u l) × (m ≤ 40_000)

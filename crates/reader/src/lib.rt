@@ -7,14 +7,14 @@ ghost use Rattle.entries.specs.Layout.{first_entry};
 ghost use Rattle.reader.specs.Read.{entry_at, entry_numbered};
 
 // The lent sheet, and the word at which the next entry is read.
-#[derive(Drop)]
+#[derive(Clone, Copy)]
 pub struct Reader<'a> {
     pub sheet: &'a [u8],
     pub place: usize,
 }
 
 // An entry of the contents: kind, start (a word number) and rows, read without a sign and not judged; or the end, where there is none.
-#[derive(Drop)]
+#[derive(Clone, Copy)]
 pub enum Entry {
     Of(u32, u32, u32),
     End,

@@ -10,7 +10,7 @@ use rounding::{Rounded, RoundedSize};
 
 // A position in a table: so much past a row that has a next, up to the whole step between the two. The last row is a whole step past the one before it, so that there is always a next.
 // `past` and `step` have 32 bits, as a word has: so products with a word are narrow ones, which some processors work faster.
-#[derive(Drop)]
+#[derive(Clone, Copy)]
 pub struct At {
     pub row: usize,
     pub past: u32,

@@ -19,7 +19,7 @@ const INPUT: usize = 7_040;
 const OUTPUT: usize = 1_084_160;
 
 // What a turn left, or the first block, and whether the input has ended or its reading failed.
-#[derive(Drop)]
+#[derive(Clone, Copy)]
 struct State {
     done: Done,
     ended: bool,

@@ -16,7 +16,7 @@ use compared::BothPlaces;
 use point_line::BLANK;
 
 // The number of lines so far, how many of them were points, changed their answer and may be touched, and the number of the first line of no known form, 0 where there is none.
-#[derive(Drop)]
+#[derive(Clone, Copy)]
 pub struct Tally {
     pub lines: u64,
     pub points: u64,
@@ -26,7 +26,7 @@ pub struct Tally {
 }
 
 // The buffer's bytes that are not yet compared, and the tally before them.
-#[derive(Drop)]
+#[derive(Clone, Copy)]
 pub struct Held {
     pub from: usize,
     pub to: usize,
@@ -34,7 +34,7 @@ pub struct Held {
 }
 
 // How many bytes of the line that has not ended are kept at the buffer's front, how many bytes of output there are, and the tally.
-#[derive(Drop)]
+#[derive(Clone, Copy)]
 pub struct Done {
     pub kept: usize,
     pub at: usize,
@@ -79,7 +79,7 @@ fn stray_after(known: bool, stray: u64, n: u64) -> u64
 // ---- lines
 
 // What one line leaves: how many bytes of output there are, and the tally.
-#[derive(Drop)]
+#[derive(Clone, Copy)]
 struct Counted {
     at: usize,
     tally: Tally,
@@ -111,7 +111,7 @@ fn compare_one(
 }
 
 // Where the line that has not ended begins, how many bytes of output there are, and the tally.
-#[derive(Drop)]
+#[derive(Clone, Copy)]
 struct Lines {
     rest: usize,
     at: usize,

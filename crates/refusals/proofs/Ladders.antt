@@ -3,18 +3,18 @@ use mathlib.Core.Path.{◌≡◌, refl, sym, ◌∙◌}
 use mathlib.Core.Bool.{Bool, true, false, not, cond}
 use Prim.Native.Nat.{ℕ, ◌<◌, ◌≤◌}
 use lib.Dec.{eqb}
-use borrow.Author.Tests.{not-true, not-false, lt-ltb, le-ltb, eq-eqb, ne_eqb, eqb-true, eqb-false}
+use borrow.Author.Tests.{lt-ltb, le-ltb, eq-eqb, ne_eqb, eqb-true, eqb-false}
 use Rattle.refusals.specs.Ladder.{need, where_below, where_is, or_else}
 
 -- `if !f { return x; }`: the test failed, or it passed and y is the rest's answer
 module _ {A : Type 0} (t f : Bool) where
-  pub stop : (x rest : A) → f ≡ t → not f ≡ true → x ≡ need t x rest
+  pub stop : (x rest : A) → f ≡ t → f ≡ false → x ≡ need t x rest
   unfolding need
-  stop x rest h e = cc (not-true f e)
+  stop x rest h e = cc
 
-  pub go : (x y rest : A) → f ≡ t → not f ≡ false → y ≡ rest → y ≡ need t x rest
+  pub go : (x y rest : A) → f ≡ t → f ≡ true → y ≡ rest → y ≡ need t x rest
   unfolding need
-  go x y rest h e r = cc (not-false f e)
+  go x y rest h e r = cc
 
   -- `if f { return x; }`, where the test to pass is that t does not hold
   pub stop_on : (x rest : A) → f ≡ t → f ≡ true → x ≡ need (not t) x rest
@@ -26,8 +26,8 @@ module _ {A : Type 0} (t f : Bool) where
   go_past x y rest h e r = cc
 
 -- past `if !f { .. }` the test holds
-pub kept : (t f : Bool) → f ≡ t → not f ≡ false → t ≡ true
-kept t f h e = cc (not-false f e)
+pub kept : (t f : Bool) → f ≡ t → f ≡ true → t ≡ true
+kept t f h e = cc
 
 -- `if a < b { .. } else { .. }`
 module _ {A : Type 0} (a b : ℕ) where

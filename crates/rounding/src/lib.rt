@@ -7,14 +7,14 @@ ghost use Rattle.rounding.specs.Between.{between, between_half, lowered};
 ghost use Rattle.rounding.specs.Ranges.{most_row, most_step, most_numerator, most_divisor};
 
 // A number after rounding, and whether its exact value was a half: halfway between two whole numbers.
-#[derive(Drop)]
+#[derive(Clone, Copy)]
 pub struct Rounded {
     pub value: i64,
     pub half: bool,
 }
 
 // The same of a size.
-#[derive(Drop)]
+#[derive(Clone, Copy)]
 pub struct RoundedSize {
     pub value: u64,
     pub half: bool,

@@ -38,28 +38,28 @@ module _
     found_is : found ≡ ((minute_of line).found && (y0_of line).found && (h_of line).found && (v_of line).found && (a_of line).found)
     found_is = rw (em, y_is, h_is, v_is, a_is)
 
-    pub not_known : not found ≡ true → unknown ≡ row_asked line
+    pub not_known : found ≡ false → unknown ≡ row_asked line
     unfolding row_asked
     not_known t = stop _ found unknown _ found_is t
 
-    pub known : not found ≡ false → asks true m.value y.value h.value v.value a.value ≡ row_asked line
+    pub known : found ≡ true → asks true m.value y.value h.value v.value a.value ≡ row_asked line
     unfolding row_asked
     known t = go _ found unknown _ _ found_is t (rw (em, y_is, h_is, v_is, a_is))
 
 -- ---- the correction that it asks for: r is the row that the code found
 module _ (s line : List ℕ) (r : NewRow) (e : r ≡ row_asked line) where
-  pub number_18 : not r.known ≡ true → 18 ≡ number_by s line
+  pub number_18 : r.known ≡ false → 18 ≡ number_by s line
   unfolding number_of_row
   number_18 t = stop _ r.known 18 _ (ap (λ q. q.known) e) t
 
-  pub sheet_18 : not r.known ≡ true → s ≡ sheet_by s line
+  pub sheet_18 : r.known ≡ false → s ≡ sheet_by s line
   unfolding sheet_of_row
   sheet_18 t = stop _ r.known s _ (ap (λ q. q.known) e) t
 
-  pub number_asked : (k : ℕ) → not r.known ≡ false → k ≡ correction_of s r.minute (figures r.y0 r.h r.v r.a) → k ≡ number_by s line
+  pub number_asked : (k : ℕ) → r.known ≡ true → k ≡ correction_of s r.minute (figures r.y0 r.h r.v r.a) → k ≡ number_by s line
   unfolding number_of_row
   number_asked k t q = go _ r.known 18 k _ (ap (λ q. q.known) e) t (q ∙ ap (λ r. correction_of s r.minute (figures r.y0 r.h r.v r.a)) e)
 
-  pub sheet_asked : (z : List ℕ) → not r.known ≡ false → z ≡ corrected_of s r.minute (figures r.y0 r.h r.v r.a) → z ≡ sheet_by s line
+  pub sheet_asked : (z : List ℕ) → r.known ≡ true → z ≡ corrected_of s r.minute (figures r.y0 r.h r.v r.a) → z ≡ sheet_by s line
   unfolding sheet_of_row
   sheet_asked z t q = go _ r.known s z _ (ap (λ q. q.known) e) t (q ∙ ap (λ r. corrected_of s r.minute (figures r.y0 r.h r.v r.a)) e)

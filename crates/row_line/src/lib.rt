@@ -5,7 +5,7 @@ ghost use Rattle.std.specs.Prelude.{◌≡◌};
 ghost use Rattle.row_line.specs.RowLine.{row_asked, number_by, sheet_by};
 
 // What the line asks: the minute, and new y0 (0.01 ft), H (0.000001), V (0.000001) and a (0.001). A line of no known form is not known, and has zeros.
-#[derive(Drop)]
+#[derive(Clone, Copy)]
 pub struct NewRow {
     pub known: bool,
     pub minute: i32,

@@ -9,7 +9,7 @@ ghost use Rattle.rules.specs.Limits.{rises};
 ghost use Rattle.rules.specs.Latitude.{figures_in_range, within_bounds, differences_of, no_differences, same_differences};
 
 // The figures of a latitude row that a correction gives: y0 (0.01 ft), H (0.000001), V (0.000001), a (0.001).
-#[derive(Drop)]
+#[derive(Clone, Copy)]
 pub struct Figures {
     pub y0: i32,
     pub h: i32,
@@ -18,7 +18,7 @@ pub struct Figures {
 }
 
 // The differences of a latitude row: Δy (0.00001), ΔH (10⁻⁸), ΔV (10⁻⁸).
-#[derive(Drop)]
+#[derive(Clone, Copy)]
 pub struct Differences {
     pub y: i32,
     pub h: i32,

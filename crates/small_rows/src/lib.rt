@@ -6,21 +6,21 @@ ghost use Rattle.entries.specs.Layout.{zone, longitude, northing, easting, scale
 ghost use Rattle.small_rows.specs.SmallRows.{zone_at, longitude_at, northing_at, easting_at, scale_at, zero_where, zone_row_fault, longitude_row_fault, northing_row_fault, easting_row_fault, scale_row_fault};
 
 // A zone row: central meridian and false easting.
-#[derive(Drop)]
+#[derive(Clone, Copy)]
 pub struct ZoneRow {
     pub central_meridian: i32,
     pub false_easting: i32,
 }
 
 // A longitude row: b and c.
-#[derive(Drop)]
+#[derive(Clone, Copy)]
 pub struct LongitudeRow {
     pub b: i32,
     pub c: i32,
 }
 
 // A northing row: P and M.
-#[derive(Drop)]
+#[derive(Clone, Copy)]
 pub struct NorthingRow {
     pub p: i32,
     pub m: i32,

@@ -26,6 +26,7 @@ toward_up (negsuc n) e h = absurd (subst T (sym h) tt)
 pub toward_size : (t : ℤ) (e : ℕ) → T (non_neg t) → toward_zero t e ≡ t
 unfolding toward_zero
 toward_size (pos n) e h = refl
+toward_size (negsuc _) e h = elim h [ ]
 
 pub toward_exact : (t : ℤ) → toward_zero t 0 ≡ t
 unfolding toward_zero

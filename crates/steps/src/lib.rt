@@ -54,7 +54,7 @@ const LOW: u64 = 16_384;
 const HIGH: u64 = 61_035_156_250;
 
 // The reduction of y, in 0.01 ft: P(x'/10,000)² + d, for x the size of x'. P·x² passes 64 bits, so x² is split at LOW:
-// P·x² + d·10¹⁵ is typeof.t.LOW + rest, and the rest is dropped toward zero. A t not below zero, as nearly all are, just loses it, and is rounded as a size.
+// P·x² + d·10¹⁵ is t·LOW + rest, and the rest is dropped toward zero. A t not below zero, as nearly all are, just loses it, and is rounded as a size.
 // The exact value is a half if what is left, over HIGH, is one and the rest is 0.
 pub fn reduction(p: u64, x: u64, d: i64) -> Rounded
     requires { (p ≤ most_p) × (x ≤ most_x) × (nat_abs d ≤ most_d) }

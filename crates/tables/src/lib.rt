@@ -17,7 +17,7 @@ use reading::At;
 use rounding::{Rounded, RoundedSize};
 
 // What a sheet's points are measured from: the latitude of row 0 and the central meridian, in 0.001″, and the false easting C, in 0.01 ft.
-#[derive(Drop)]
+#[derive(Clone, Copy)]
 pub struct Origin {
     pub first_latitude: i64,
     pub central_meridian: i64,

@@ -24,19 +24,19 @@ module _ (s : List ℕ) (minute a b : ℤ) where
 
   -- ---- past the check; f is what the code found of the minute
   module _ (z : (check_of s).number ≡ 0) (f : Bool) (e : f ≡ has_minute s minute) where
-    pub geographic-none : not f ≡ true → no_touch 16 ≡ geographic_touched s minute a b
+    pub geographic-none : f ≡ false → no_touch 16 ≡ geographic_touched s minute a b
     unfolding geographic_touched
     geographic-none h = on_pass (λ t. t.number) no_touch (λ n. refl) s _ (no_touch 16) z (stop (has_minute s minute) f (no_touch 16) _ e h)
 
-    pub geographic-passes : not f ≡ false → (t : Bool) → t ≡ forward_touched s minute a b → touch 0 t ≡ geographic_touched s minute a b
+    pub geographic-passes : f ≡ true → (t : Bool) → t ≡ forward_touched s minute a b → touch 0 t ≡ geographic_touched s minute a b
     unfolding geographic_touched
     geographic-passes h t q = on_pass (λ t. t.number) no_touch (λ n. refl) s _ (touch 0 t) z (go (has_minute s minute) f (no_touch 16) (touch 0 t) _ e h (ap (touch 0) q))
 
-    pub plane-none : not f ≡ true → no_touch 16 ≡ plane_touched s minute a b
+    pub plane-none : f ≡ false → no_touch 16 ≡ plane_touched s minute a b
     unfolding plane_touched
     plane-none h = on_pass (λ t. t.number) no_touch (λ n. refl) s _ (no_touch 16) z (stop (has_minute s minute) f (no_touch 16) _ e h)
 
-    pub plane-passes : not f ≡ false → (t : Bool) (r : ℕ) → r ≡ row_named s minute → t ≡ inverse_touched s r a b → touch 0 t ≡ plane_touched s minute a b
+    pub plane-passes : f ≡ true → (t : Bool) (r : ℕ) → r ≡ row_named s minute → t ≡ inverse_touched s r a b → touch 0 t ≡ plane_touched s minute a b
     unfolding plane_touched
     plane-passes h t r k q =
         on_pass (λ t. t.number) no_touch (λ n. refl) s _ (touch 0 t) z

@@ -11,7 +11,7 @@ ghost use Rattle.touched.specs.Touched.{has_minute, row_named, near_row, forward
 use entries::Places;
 
 // Whether a correction may change a point's answer. A refusal has its number, and no.
-#[derive(Drop)]
+#[derive(Clone, Copy)]
 pub struct Touch {
     pub number: u32,
     pub touched: bool,

@@ -10,7 +10,7 @@ use Rattle.rounding.specs.Ranges.{most_numerator}
 use Rattle.rounding.proofs.Holds.{Holds, held, held_size, size_below}
 use Rattle.rounding.proofs.Rounding.{nearest_size_le}
 use Rattle.rounding.proofs.nearest.Goals as goal
-use Rattle.rounding.proofs.nearest.Goals.{After-size, After-nearest_size-r}
+use Rattle.rounding.proofs.nearest.Goals.{After-nearest_size-r, After-size}
 
 -- what `size` answered, and the size of what `nearest_size` did
 size_is : (c : After-size) → c.size.result ≡ nat_abs c.args.n
@@ -23,6 +23,12 @@ quotient c =
     (omega (arith, c.nearest_size-r.ensures.0, size_is c.before, nearest_size_le n c.args.d c.requires.1))
     tt
 
+pub size-requires : goal.size-requires
+size-requires c = size_below (held c.ranges.n c.requires.0) tt
+
+pub nearest_size-r-requires : goal.nearest_size-r-requires
+nearest_size-r-requires c = (omega (arith, size_is c), omega arith, omega arith)
+
 pub overflow_cast-r : goal.overflow_cast-r
 overflow_cast-r c = omega (arith, (quotient c.before).size)
 
@@ -33,8 +39,8 @@ pub returns : goal.returns
 unfolding nearest on_half
 returns c =
     let worked = c.before.before in
-    let start = c.before.before in
-    let whole = rw (to_z-of_z c.ranges.n, (quotient worked).is) at c.with_sign.ensures in (
+    let start = worked.before.before in
+    let whole = rw (to_z-of_z start.ranges.n, (quotient worked).is) at c.with_sign.ensures in (
       cc (to_z-of_z (sfits_of c.with_sign.type_inv), whole, size_is worked.before, worked.nearest_size-r.ensures.0),
       cc (size_is worked.before, worked.nearest_size-r.ensures.1),
     )

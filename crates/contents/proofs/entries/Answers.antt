@@ -1,0 +1,25 @@
+-- `contents::entries` meets its contract. Assumes nothing.
+use native.Mathlib.Omega.{arith}
+use borrow.Author.Rules.{rules}
+use native.Mathlib.Nat.{sub-zero}
+use Rattle.refusals.proofs.FirstFault.{on, here, end}
+use Rattle.entries.specs.Entries.{due_at}
+use Rattle.entries.proofs.Spans.{due_next}
+use Rattle.contents.proofs.Limits.{fault-known}
+use Rattle.contents.proofs.entries.Goals as goal
+
+pub returns-then-number-ne0 : goal.returns-then-number-ne0
+returns-then-number-ne0 c = search here
+
+pub returns : goal.returns
+returns c = search end
+
+pub loop-e-init : goal.loop-e-init
+unfolding due_at
+loop-e-init c = (omega arith, search rules, omega arith, rw sub-zero)
+
+pub span_at-due-requires : goal.span_at-due-requires
+span_at-due-requires c = search (fault-known, rules)
+
+pub loop-e-preserved : goal.loop-e-preserved
+loop-e-preserved c = (omega arith, search due_next, omega arith, search on)

@@ -1,0 +1,8 @@
+-- `words::unsigned_word` meets its contract. Assumes nothing.
+use native.Mathlib.Omega.{arith}
+use Rattle.words.specs.Words.{unsigned_at}
+use Rattle.words.proofs.unsigned_word.Goals as goal
+
+pub returns : goal.returns
+unfolding unsigned_at
+returns c = omega arith
