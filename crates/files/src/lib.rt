@@ -163,7 +163,7 @@ pub fn is_name(rt: &HostRuntime, what: &[u8], name: &[u8]) -> bool
 pub fn path_of(name: &[u8]) -> Result<&str> {
     match str::from_utf8(name) {
         Ok(path) => Ok(path),
-        Err(_) => Err(Error::new(ErrorKind::InvalidInput, "its name is no UTF-8")),
+        Err(_) => Err(Error::new(ErrorKind::InvalidInput, "its name is not in UTF-8")),
     }
 }
 
