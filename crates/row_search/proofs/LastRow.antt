@@ -15,6 +15,7 @@ module _ (f : ℕ → ℤ) (z : ℤ) where
   -- it is one of the n rows
   pub last_below : (n : ℕ) → 0 < n → last_not_above f n z < n
   unfolding last_not_above
+  last_below zero h = elim h [ ]
   last_below (suc zero) h = pick (le_z (f 0) z)
     where
       pick : (t : Bool) → cond t 0 0 < 1

@@ -14,7 +14,7 @@ use Rattle.small_rows.specs.SmallRows.{zero_where}
 
 -- a word as it is read
 pub read : {x y : ℤ} → mag x < 2 ^ hbits w32 → x ≡ y → to_z w32 (of_z w32 x) ≡ y
-read e h = to_z-of_z (sfits_of e) ∙ h
+read e h = to_z-of_z {w = w32} (sfits_of {w = w32} e) ∙ h
 
 -- a test that counts where a does not hold
 pub either : (a f t : Bool) → f ≡ t → a || f ≡ a || t

@@ -10,7 +10,7 @@ ghost use Rattle.contents.specs.Contents.{Placed};
 ghost use Rattle.sheet_check.specs.Check.{KnownToPass};
 ghost use Rattle.reading.specs.Tables.{offset_of, NotNegative};
 ghost use Rattle.row_search.specs.Rows.{last_not_above};
-ghost use Rattle.tables.specs.Figures.{InTable, figure_of, figure_at, figure_half, central_meridian_of, false_easting_of, first_latitude_of, origin_of, y0Of, y0At, y0Half, h_at, h_half, v_at, v_half, a_at, a_half, b_at, b_half, c_at, c_half, p_at, p_half, m_at, m_half, d_at, d_half, k_at, k_half};
+ghost use Rattle.tables.specs.Figures.{InTable, figure_of, figure_at, figure_half, central_meridian_of, false_easting_of, first_latitude_of, origin_of, y0_of, y0_at, y0_half, h_at, h_half, v_at, v_half, a_at, a_half, b_at, b_half, c_at, c_half, p_at, p_half, m_at, m_half, d_at, d_half, k_at, k_half};
 
 use entries::{Place, Places};
 use reading::At;
@@ -103,15 +103,15 @@ pub fn origin_of(s: &[u8], p: Places) -> Origin
 // y0 in latitude row i, in 0.01 ft.
 pub fn y0_of(s: &[u8], p: Places, i: usize) -> i64
     requires { KnownToPass s.now p × (i < rows_of s.now latitude) }
-    ensures { (result ≡ y0Of s.now i) × (nat_abs result ≤ 999_999_999) }
+    ensures { (result ≡ y0_of s.now i) × (nat_abs result ≤ 999_999_999) }
 {
     figure_of(s, p.latitude, entries::LATITUDE, 1, i)
 }
 
 // Of the first n latitude rows, the last with y0 not above z. z is not below the first y0. The first look takes every row to rise by the middle of the two bounds.
 fn row_among(s: &[u8], p: Places, n: usize, z: i64) -> usize
-    requires { KnownToPass s.now p × (0 < n) × (n ≤ rows_of s.now latitude) × (le_z (y0Of s.now 0) z ≡ true) × (nat_abs z < 2 ^ 62) }
-    ensures { (result ≡ last_not_above (y0Of s.now) n z) × (result < n) }
+    requires { KnownToPass s.now p × (0 < n) × (n ≤ rows_of s.now latitude) × (le_z (y0_of s.now 0) z ≡ true) × (nat_abs z < 2 ^ 62) }
+    ensures { (result ≡ last_not_above (y0_of s.now) n z) × (result < n) }
 {
     let b = contents::body(s, p.latitude, entries::LATITUDE);
     let rise = (rules::LEAST_RISE as u64 + rules::MOST_RISE as u64) / 2;
@@ -120,16 +120,16 @@ fn row_among(s: &[u8], p: Places, n: usize, z: i64) -> usize
 
 // The last latitude row with y0 not above z, which is not below the first.
 pub fn row_of_northing(s: &[u8], p: Places, z: i64) -> usize
-    requires { KnownToPass s.now p × (le_z (y0Of s.now 0) z ≡ true) × (nat_abs z < 2 ^ 62) }
-    ensures { (result ≡ last_not_above (y0Of s.now) (rows_of s.now latitude) z) × (result < rows_of s.now latitude) }
+    requires { KnownToPass s.now p × (le_z (y0_of s.now 0) z ≡ true) × (nat_abs z < 2 ^ 62) }
+    ensures { (result ≡ last_not_above (y0_of s.now) (rows_of s.now latitude) z) × (result < rows_of s.now latitude) }
 {
     row_among(s, p, p.latitude.rows, z)
 }
 
 // The same row, or the one before it where that is the last, so that there is a next: the last row is not looked at.
 pub fn row_with_next(s: &[u8], p: Places, z: i64) -> usize
-    requires { KnownToPass s.now p × (le_z (y0Of s.now 0) z ≡ true) × (nat_abs z < 2 ^ 62) }
-    ensures { result ≡ min (last_not_above (y0Of s.now) (rows_of s.now latitude) z) (rows_of s.now latitude - 2) }
+    requires { KnownToPass s.now p × (le_z (y0_of s.now 0) z ≡ true) × (nat_abs z < 2 ^ 62) }
+    ensures { result ≡ min (last_not_above (y0_of s.now) (rows_of s.now latitude) z) (rows_of s.now latitude - 2) }
 {
     row_among(s, p, p.latitude.rows - 1, z)
 }
@@ -137,7 +137,7 @@ pub fn row_with_next(s: &[u8], p: Places, z: i64) -> usize
 // y0 at a latitude, in 0.01 ft. Here and below `at` is a position in the table that has the figure.
 pub fn y0_at(s: &[u8], p: Places, at: At) -> Rounded
     requires { KnownToPass s.now p × InTable s.now latitude at }
-    ensures { (result.value ≡ y0At s.now (offset_of at)) × (nat_abs result.value ≤ 999_999_999) × (result.half ≡ y0Half s.now (offset_of at)) }
+    ensures { (result.value ≡ y0_at s.now (offset_of at)) × (nat_abs result.value ≤ 999_999_999) × (result.half ≡ y0_half s.now (offset_of at)) }
 {
     signed(size_by(s, p.latitude, entries::LATITUDE, 1, at))
 }

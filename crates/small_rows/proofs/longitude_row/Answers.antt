@@ -18,7 +18,7 @@ returns-then-not-zero_where c = search (stop, go, ranged, zeroed)
 
 pub returns-then-not-zero_where-2 : goal.returns-then-not-zero_where-2
 unfolding longitude_row_fault
-returns-then-not-zero_where-2 c = search (stop, go, ranged, zeroed)
+returns-then-not-zero_where-2 c = search (stop, go, ranged, zeroed) depth 6 fits 2000
 
 pub returns-then-not-last-rises : goal.returns-then-not-last-rises
 unfolding longitude_row_fault

@@ -1,0 +1,20 @@
+-- `tables::v_at` meets its contract. Assumes nothing.
+use mathlib.Core.Path.{◌∙◌}
+use Rattle.tables.specs.Figures.{v_at, v_half}
+use Rattle.tables.proofs.Parts.{table_within}
+use Rattle.tables.proofs.Ranges.{latitude_is, latitude-half_is, v_between, v_rows}
+use Rattle.tables.proofs.Answers.{read_is, read_high}
+use Rattle.sheet_check.proofs.Known.{latitude-placed}
+use borrow.Author.Rules.{rules}
+use Rattle.tables.proofs.v_at.Goals as goal
+
+pub returns : goal.returns
+unfolding v_at v_half
+returns c =
+    let p = c.requires in
+    let h = v_between _ p.0.passes _ (table_within _ _ _ p.1) in
+    let e = c.size_by.ensures.0 ∙ latitude_is _ p.0.passes 5 _ in
+    (read_is e h, read_high e h, c.size_by.ensures.1 ∙ latitude-half_is _ p.0.passes 5 _)
+
+pub size_by-requires : goal.size_by-requires
+size_by-requires c = search (latitude-placed, v_rows, rules)
