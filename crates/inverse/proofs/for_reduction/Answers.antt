@@ -12,7 +12,7 @@ use Rattle.extent.proofs.Reach.{northing_reach, northing-within}
 use Rattle.extent.proofs.Points.{wide, wide_fits}
 use Rattle.inverse.proofs.Longitudes.{reduction-taken}
 use Rattle.inverse.proofs.for_reduction.Goals as goal
-use Rattle.inverse.proofs.for_reduction.Goals.{After-struct_known-2-1, After-usual_step-east, Start, Then-p-north}
+use Rattle.inverse.proofs.for_reduction.Goals.{After-usual_step-east, Then-p-north}
 
 -- the steps, where both are the usual ones
 found : (c : Then-p-north)
@@ -24,21 +24,17 @@ found c =
     let tests = both (eqb p.northing.step east.usual_step-north.result) (eqb p.easting.step east.usual_step-east.result) c.if-p-north.true in
     (eqb-true _ _ tests.0, eqb-true _ _ tests.1)
 
--- the start, from the test on
-abbrev start : After-struct_known-2-1 → Start
-start c = c.before.before.before.before.before
-
 pub returns-then-p-north : goal.returns-then-p-north
 returns-then-p-north c =
     let p = c.p_by.ensures in
     let d = c.d_by.ensures in
-    (reduction-taken _ _ _ _ (ap nat_abs (wide (start (goal.at.returns-then-p-north c).After-struct_known-2-1).ranges.y).is) refl p.0 p.2 d.0 d.2, p.1, d.1)
+    (reduction-taken _ _ _ _ (ap nat_abs (wide c.ranges.y).is) refl p.0 p.2 d.0 d.2, p.1, d.1)
 
 pub returns : goal.returns
 returns c =
     let p = c.p_by-2.ensures in
     let d = c.d_by-2.ensures in
-    (reduction-taken _ _ _ _ (ap nat_abs (wide (start (goal.at.returns c).After-struct_known-2-1).ranges.y).is) refl p.0 p.2 d.0 d.2, p.1, d.1)
+    (reduction-taken _ _ _ _ (ap nat_abs (wide c.ranges.y).is) refl p.0 p.2 d.0 d.2, p.1, d.1)
 
 pub overflow_cast-up : goal.overflow_cast-up
 overflow_cast-up c = wide_fits c.ranges.y
@@ -47,13 +43,13 @@ pub overflow_cast-up-2 : goal.overflow_cast-up-2
 overflow_cast-up-2 c = unsigned_fits (wide c.ranges.y) (size_non_neg (northing_reach _ _ c.requires.2)) tt
 
 pub p_by-requires : goal.p_by-requires
-p_by-requires c = let from = start (goal.at.p_by-requires c).After-struct_known-2-1 in (from.requires.0, found_step _ _ _ (northing-placed _ _ from.requires.0) _ (found c).0, rw (wide from.fits.y).is (northing-within _ _ from.requires.2))
+p_by-requires c = (c.requires.0, found_step _ _ _ (northing-placed _ _ c.requires.0) _ (found c).0, rw (wide c.ranges.y).is (northing-within _ _ c.requires.2))
 
 pub d_by-requires : goal.d_by-requires
-d_by-requires c = let from = start (goal.at.d_by-requires c).After-struct_known-2-1 in (from.requires.0, found_step _ _ _ (easting-placed _ _ from.requires.0) _ (found (goal.at.d_by-requires c).Then-p-north).1, from.requires.1)
+d_by-requires c = (c.requires.0, found_step _ _ _ (easting-placed _ _ c.requires.0) _ (found (goal.at.d_by-requires c).Then-p-north).1, c.requires.1)
 
 pub p_by-requires-2 : goal.p_by-requires-2
-p_by-requires-2 c = let from = start (goal.at.p_by-requires-2 c).After-struct_known-2-1 in (from.requires.0, place-step _ _ _ (northing-placed _ _ from.requires.0), rw (wide from.fits.y).is (northing-within _ _ from.requires.2))
+p_by-requires-2 c = (c.requires.0, place-step _ _ _ (northing-placed _ _ c.requires.0), rw (wide c.ranges.y).is (northing-within _ _ c.requires.2))
 
 pub d_by-requires-2 : goal.d_by-requires-2
-d_by-requires-2 c = let from = start (goal.at.d_by-requires-2 c).After-struct_known-2-1 in (from.requires.0, place-step _ _ _ (easting-placed _ _ from.requires.0), from.requires.1)
+d_by-requires-2 c = (c.requires.0, place-step _ _ _ (easting-placed _ _ c.requires.0), c.requires.1)

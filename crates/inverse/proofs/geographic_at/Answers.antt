@@ -6,7 +6,7 @@ use native.Mathlib.Omega.{arith}
 use lib.Dec.{lit<}
 use lib.IntN.{pos, nat_abs}
 use Rattle.rounding.specs.Ranges.{most_s}
-use mir.Syntax.{w64}
+use mir.Syntax.{w64, w32}
 use mir.Val.{to_z, of_z}
 use Rattle.rounding.specs.Nearest.{with_sign}
 use Rattle.rounding.proofs.Sizes.{size_with_sign}
@@ -58,8 +58,8 @@ module _ (c : After-with_sign) where
 pub returns : goal.returns
 unfolding longitude_of
 returns c =
-    let north = cast (sum (first (start (goal.at.returns c).After-with_sign)) (distance (start (goal.at.returns c).After-with_sign)) tt) tt in
-    let west = cast (difference (central (start (goal.at.returns c).After-with_sign)) (l_held (goal.at.returns c).After-with_sign) tt) tt in
+    let north = cast (sum (first (start (goal.at.returns c).After-with_sign)) (distance (start (goal.at.returns c).After-with_sign)) tt) {v = w32} tt in
+    let west = cast (difference (central (start (goal.at.returns c).After-with_sign)) (l_held (goal.at.returns c).After-with_sign) tt) {v = w32} tt in
     geographic-worked _ _ _ _ north.is refl west.is refl (start (goal.at.returns c).After-with_sign).requires.5
 
 -- the place before a need
