@@ -12,11 +12,11 @@ use mir.Syntax.{w32}
 use mir.Val.{to_z, of_z}
 use mir.ValLaws.{to_z-of_z, to_z_pos}
 use borrow.Author.Rules.{rules}
-use Rattle.batch.proofs.put.Statement.{statement}
-use Rattle.batch.proofs.put.Tie as tie
+use Rattle.batch.proofs.put.Goals as goal
+use Rattle.batch.proofs.put.Goals.{Start}
 
 -- what the three stores leave
-stored : (c : tie.Start)
+stored : (c : Start)
     → set (set (set c.args.answers.now c.args.at (to_z w32 c.args.number)) (c.args.at + 1) (to_z w32 (of_z w32 c.args.x))) (c.args.at + 2) (to_z w32 (of_z w32 c.args.y))
     ≡ sets c.args.answers.now c.args.at (pos c.args.number ∷ c.args.x ∷ c.args.y ∷ [])
 stored c =
@@ -25,17 +25,17 @@ stored c =
     let f : at + 2 ≡ suc (suc at) = omega arith in
     rw (to_z_pos w32 c.args.number c.requires.1, to_z-of_z w32 c.args.x c.ranges.x, to_z-of_z w32 c.args.y c.ranges.y, e, f)
 
-slice-set-from-x : tie.Need-slice-set-from-x
-slice-set-from-x c = simp length-set (omega arith)
+pub bounds-answers-at-2 : goal.bounds-answers-at-2
+bounds-answers-at-2 c = simp length-set (omega arith)
 
-slice-set-from-y : tie.Need-slice-set-from-y
-slice-set-from-y c = simp length-set (omega arith)
+pub bounds-answers-at-3 : goal.bounds-answers-at-3
+bounds-answers-at-3 c = simp length-set (omega arith)
 
-returns : tie.Need-returns
-returns c = (rw (eq-eqb c.before.args.number 0 c.if1.true), lit≤ tt, stored c.before)
+pub returns-then-number-eq0 : goal.returns-then-number-eq0
+returns-then-number-eq0 c = (rw (eq-eqb c.args.number 0 c.if-number-eq0.true), lit≤ tt, stored (goal.at.returns-then-number-eq0 c).Start)
 
-returns-2 : tie.Need-returns-2
-returns-2 c = (rw (ne_eqb c.before.args.number 0 c.if1.false), lit≤ tt, stored c.before)
+pub returns-else-number-eq0 : goal.returns-else-number-eq0
+returns-else-number-eq0 c = (rw (ne_eqb c.args.number 0 c.if-number-eq0.false), lit≤ tt, stored (goal.at.returns-else-number-eq0 c).Start)
 
 pub put_spec : {M : Type 1} → statement M
 put_spec =
@@ -46,11 +46,11 @@ put_spec =
     (λ c. search rules)
     (λ c. search rules)
     (λ c. search rules)
-    slice-set-from-x
+    bounds-answers-at-2
     (λ c. search rules)
     (λ c. search rules)
-    slice-set-from-y
+    bounds-answers-at-3
     (λ c. search rules)
-    returns
+    returns-then-number-eq0
     (λ c. search rules)
-    returns-2)
+    returns-else-number-eq0)

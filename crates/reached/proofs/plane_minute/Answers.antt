@@ -1,0 +1,75 @@
+-- `reached::plane_minute` meets its contract. Assumes nothing.
+use mathlib.Core.Path.{◌≡◌, ap, ◌∙◌}
+use Prim.Native.Nat.{◌+◌, ◌≤◌}
+use native.Mathlib.Omega.{arith}
+use lib.IntN.{nat_abs}
+use mir.Syntax.{w32, w64}
+use mir.Val.{to_z, of_z}
+use Rattle.refusals.proofs.Ladders.{stop, go, kept}
+use Rattle.extent.specs.Extent.{x_prime, easting_known, northing_known}
+use Rattle.extent.proofs.Reach.{easting-within, latitude_count}
+use Rattle.inverse.specs.Inverse.{reduced_northing}
+use Rattle.rounding.proofs.Bits.{bits_is, bits_below}
+use Rattle.reached.specs.Reached.{plane_minute}
+use borrow.Author.Rules.{rules}
+use Rattle.reached.proofs.plane_minute.Goals as goal
+use Rattle.reached.proofs.plane_minute.Goals.{After-easting_known, After-northing_known, After-reduced_northing-z, After-row_below, After-x_prime-xp, Start}
+
+-- x', the tests and the reduced northing, of the point itself
+x_is : (c : Start) → to_z w32 (of_z w32 c.args.x) ≡ c.args.x
+x_is c = search rules
+
+y_is : (c : Start) → to_z w32 (of_z w32 c.args.y) ≡ c.args.y
+y_is c = search rules
+
+xp_is : (c : After-x_prime-xp) → to_z w64 (of_z w64 c.x_prime-xp.result) ≡ x_prime c.args.s.now c.args.x
+xp_is c = bits_is c.x_prime-xp.type_inv ∙ c.x_prime-xp.ensures.0 ∙ ap (x_prime _) (x_is (goal.at.After-x_prime-xp c).Start)
+
+easting-known_is : (c : After-easting_known) → let args = c.args in c.easting_known.result ≡ easting_known args.s.now (x_prime args.s.now args.x)
+easting-known_is c = c.easting_known.ensures ∙ ap (easting_known _) (xp_is (goal.at.After-easting_known c).After-x_prime-xp)
+
+northing_is : (c : After-northing_known) → let args = c.args in c.northing_known.result ≡ northing_known args.s.now args.y
+northing_is c = c.northing_known.ensures ∙ ap (northing_known _) (y_is (goal.at.After-northing_known c).Start)
+
+reduced_is : (c : After-reduced_northing-z)
+    → let args = c.args in
+    to_z w64 (of_z w64 c.reduced_northing-z.result.value) ≡ reduced_northing args.s.now (nat_abs (x_prime args.s.now args.x)) args.y
+reduced_is c =
+    let size = c.size.ensures ∙ ap nat_abs (xp_is (goal.at.After-reduced_northing-z c).After-x_prime-xp) in
+    let bits : to_z w64 (of_z w64 c.reduced_northing-z.result.value) ≡ c.reduced_northing-z.result.value = search rules in
+    bits ∙ c.reduced_northing-z.ensures.0 ∙ rw (size, y_is (goal.at.After-reduced_northing-z c).Start)
+
+-- the first minute and the row are small
+sum_most : (c : After-row_below) → c.first_minute.result + c.row_below.result ≤ 6_600
+sum_most c =
+    let p = c.requires in
+    omega (arith, c.first_minute.ensures.1, c.row_below.ensures.1, latitude_count _ p.passes)
+
+pub returns-then-not-easting_known : goal.returns-then-not-easting_known
+unfolding plane_minute
+returns-then-not-easting_known c = (stop _ _ _ _ (easting-known_is (goal.at.returns-then-not-easting_known c).After-easting_known) c.if-not-easting_known.true, omega arith)
+
+pub returns-then-not-northing_known : goal.returns-then-not-northing_known
+unfolding plane_minute
+returns-then-not-northing_known c = (go _ _ _ _ _ (easting-known_is (goal.at.returns-then-not-northing_known c).After-easting_known) c.if-not-easting_known.false (stop _ _ _ _ (northing_is (goal.at.returns-then-not-northing_known c).After-northing_known) c.if-not-northing_known.true), omega arith)
+
+pub returns : goal.returns
+unfolding plane_minute
+returns c = (
+  go _ _ _ _ _ (easting-known_is (goal.at.returns c).After-easting_known) c.if-not-easting_known.false
+      (go _ _ _ _ _ (northing_is (goal.at.returns c).After-northing_known) c.if-not-northing_known.false
+      (rw (c.first_minute.ensures.0, c.row_below.ensures.0, reduced_is (goal.at.returns c).After-reduced_northing-z))),
+  omega (arith, sum_most c),
+)
+
+pub size-requires : goal.size-requires
+size-requires c = let xp = c.x_prime-xp in bits_below xp.result xp.type_inv xp.ensures.1 tt
+
+pub reduced_northing-z-requires : goal.reduced_northing-z-requires
+reduced_northing-z-requires c =
+    let p = c.requires in
+    let easting = kept _ _ c.easting_known.ensures c.if-not-easting_known.false in
+    (p, rw c.size.ensures (easting-within _ _ easting), kept _ _ c.northing_known.ensures c.if-not-northing_known.false)
+
+pub overflow_add-result : goal.overflow_add-result
+overflow_add-result c = record { fits = omega (arith, sum_most c) }
