@@ -142,7 +142,7 @@ fn cannot(rt: &HostRuntime, what: &[u8], why: &[u8]) {
 
 // Whether the name is one that a file may have: of 1 to 255 bytes, none of them 0. Where it is not, standard error says what cannot be done, and why.
 pub fn is_name(rt: &HostRuntime, what: &[u8], name: &[u8]) -> bool
-    ensures { (result ≡ true → length name.now < 256) }
+    ensures { result ≡ true → length name.now < 256 }
 {
     if name.len() == 0 {
         cannot(rt, what, b": its name is empty\n");

@@ -68,10 +68,3 @@ module _ (name memory first : List ℕ) (n : ℕ) (place : n ≡ folder_end name
 
   pub temporary_put : (take n first ++ (unfinished ++ post_of n (n + 17 - n) first) ≡ temporary_of name ++ drop (n + 17) memory) × (n + 17 ≡ length (temporary_of name)) × (n + 17 ≤ length (take n first ++ (unfinished ++ post_of n (n + 17 - n) first)))
   temporary_put = (both_put, both_long, both_fit)
-
--- six letters of it can be filled in
-pub six : (name memory : List ℕ) (n : ℕ) → n ≡ length (temporary_of name) → n ≤ length memory → 6 ≤ length (take (n - 0) memory)
-unfolding temporary_of
-six name memory n e h =
-    let z : n - 0 ≡ n = omega arith in
-    rw z (omega (arith, e, length-take-le n memory h, length-append (take (folder_end name) name) unfinished))

@@ -23,6 +23,11 @@ const LETTERS: [u8; 62] = *b"abcdefghijklmnopqrstuvwxyzABCDEFGHIJKLMNOPQRSTUVWXY
 // How many names are tried where files have them already.
 const TRIES: u32 = 238_328;
 
+// Linux's errors for a name of another form, and for names that are all taken.
+const INVALID_ARGUMENT: i32 = 22;
+
+const FILE_EXISTS: i32 = 17;
+
 // Room for a folder and that name.
 const ROOM: usize = 272;
 
@@ -151,10 +156,11 @@ fn open_new(rt: &HostRuntime, temporary: &[u8]) -> Result<File> {
         .open(rt, files::path_of(temporary)?)
 }
 
-// Opens a new file under the temporary name, with its last six letters filled in: others, where a file has the name already.
-fn create(rt: &HostRuntime, temporary: &mut [u8]) -> Result<File>
-    requires { 6 ≤ length temporary.old }
-{
+// Opens a new file under the temporary name, with its last six letters filled in: others, where a file has the name already. A name that ends in fewer letters to fill in is refused.
+fn create(rt: &HostRuntime, temporary: &mut [u8]) -> Result<File> {
+    if !temporary.ends_with(b"XXXXXX") {
+        return Err(Error::from_raw_os_error(INVALID_ARGUMENT));
+    }
     for _ in 0..TRIES {
         fill_in(rt, temporary)?;
         match open_new(rt, temporary) {
@@ -162,7 +168,7 @@ fn create(rt: &HostRuntime, temporary: &mut [u8]) -> Result<File>
             opened => return opened,
         }
     }
-    Err(Error::from(ErrorKind::AlreadyExists))
+    Err(Error::from_raw_os_error(FILE_EXISTS))
 }
 
 // Gives the open file its owner and group as far as the system lets: to another owner, that is for root alone.
@@ -235,7 +241,7 @@ fn save_by(
     content: &[u8],
     leave: Leave,
 ) -> bool
-    requires { (length name.now < 256) × (6 ≤ length temporary.old) }
+    requires { length name.now < 256 }
 {
     match create(rt, temporary) {
         Ok(file) => save_open(rt, file, temporary, name, content, leave),
