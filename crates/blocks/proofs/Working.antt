@@ -6,7 +6,7 @@ use native.Mathlib.Omega.{arith}
 use native.Mathlib.Nat.{mul-le-mul_left}
 use lib.ListN.{length, take, drop}
 use lib.Seq.{slice}
-use Rattle.bytes.specs.Bytes.{index_of}
+use Rattle.stream.specs.Search.{index_of}
 use Rattle.decimal.specs.Writing.{Wrote}
 use Rattle.decimal.proofs.Spelling.{then}
 use Rattle.stream.specs.Stream.{ended_lines, unended}

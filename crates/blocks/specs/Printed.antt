@@ -1,7 +1,7 @@
 -- "Points program": what it prints for a whole input. `held` gives the bytes that the system holds under a file's name, none where it cannot be read. (The program reads no more than 65,536 of them:
 -- from 65,533 on the check's answer is 1 0 0.)
 use Rattle.std.specs.Prelude.{ℕ, Bool, cond, ◌&&◌, List, [], ◌∷◌, ◌++◌, leb, eqb, length}
-use Rattle.bytes.specs.Bytes.{index_of}
+use Rattle.stream.specs.Search.{index_of}
 use Rattle.refusals.specs.Ladder.{where_is}
 use Rattle.sheet_check.specs.Check.{check_of}
 use Rattle.lines.specs.Lines.{verdict_line, answer_text}

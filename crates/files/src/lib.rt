@@ -2,40 +2,88 @@
 // readers say how far they reach; `read_on` and the reads under it also say that what stood before stays. Where the system refuses, standard error says why.
 #![tactic(auto)]
 
-ghost use Rattle.std.specs.Prelude.{◌≡◌, true, ◌++◌, map, ◌+◌, ◌<◌, ◌≤◌, length, take, drop};
+ghost use Rattle.std.specs.Prelude.{◌≡◌, true, ◌++◌, map, ◌+◌, ◌<◌, ◌≤◌, length, take, drop, IfOk};
 ghost use Rattle.files.specs.Shown.{shown_byte};
 
-use libc::{EINTR, STDERR_FILENO, STDIN_FILENO, STDOUT_FILENO};
+use std::fs::File;
+use std::io::{Error, ErrorKind, Print, Read, Result, Write};
 
 // The most bytes of a file's name.
 pub const MOST_NAME: usize = 255;
 
 const CARRIAGE_RETURN: u8 = 13;
 
+// The most bytes of a sheet.
+pub const MOST_SHEET: usize = 65_536;
+
+// Memory for a sheet. It is made apart because the proof of a function that holds so long an array would spell it out.
+pub fn sheet_room() -> [u8; MOST_SHEET]
+    ensures { 65_536 ≡ length result }
+{
+    [0; MOST_SHEET]
+}
+
 // ---- standard output and standard error
 
 // Writes a text to standard output; false where the system refuses.
-pub fn tell(text: &[u8]) -> bool {
-    if io::write_all(STDOUT_FILENO, text) {
-        return true;
+pub fn tell(rt: &HostRuntime, text: &[u8]) -> bool {
+    match Print::write_all(rt, text) {
+        Ok(()) => true,
+        Err(e) => {
+            explain(rt, b"cannot write standard output", e);
+            false
+        }
     }
-    os::fail(b"cannot write standard output");
-    false
 }
 
 // Whether standard output is open to be written to.
-pub fn is_open() -> bool {
+pub fn is_open(rt: &HostRuntime) -> bool {
     let none = [0u8; 1];
-    if libc::write(STDOUT_FILENO, &none[0..0]) < 0 {
-        os::fail(b"cannot write standard output");
-        return false;
+    match Print::write_some(rt, &none[0..0]) {
+        Ok(_) => true,
+        Err(e) => {
+            explain(rt, b"cannot write standard output", e);
+            false
+        }
     }
-    true
 }
 
-// Writes a text to standard error.
-pub fn say(text: &[u8]) {
-    io::write_all(STDERR_FILENO, text);
+// Writes a text to standard error. Where the system refuses that there is nobody to tell.
+pub fn say(rt: &HostRuntime, text: &[u8]) {
+    let _ = Print::write_all(&rt.stderr(), text);
+}
+
+// How much of the text stands before its last bracket and the blank before that.
+fn before_bracket(text: &[u8]) -> usize
+    ensures { result ≤ length text.now }
+{
+    match text.iter().rposition(|b| *b == b'(') {
+        Some(i) => i.saturating_sub(1),
+        None => text.len(),
+    }
+}
+
+// The reason's text at the front of the memory. Behind one of the system's own a number stands in brackets, which is left out.
+fn put_reason(error: Error, memory: &mut [u8; 256]) -> usize
+    ensures { result ≤ 256 }
+{
+    let mut rest: &mut [u8] = memory;
+    let _ = write!(rest, "{error}");
+    let n = 256 - stream::least(256, rest.len());
+    if error.raw_os_error().is_none() {
+        return n;
+    }
+    before_bracket(&memory[0..n])
+}
+
+// Writes to standard error what failed, and the reason.
+pub fn explain(rt: &HostRuntime, what: &[u8], error: Error) {
+    let mut text = [0u8; 256];
+    let n = put_reason(error, &mut text);
+    say(rt, what);
+    say(rt, b": ");
+    say(rt, &text[0..n]);
+    say(rt, b"\n");
 }
 
 // ---- names
@@ -63,52 +111,60 @@ fn put_shown(name: &[u8], memory: &mut [u8])
     }
 }
 
-// Writes to standard error what could not be done with the file of the name, and the system's reason.
-pub fn fail(what: &[u8], name: &[u8])
+// Writes to standard error what could not be done with the file of the name, and the reason.
+pub fn fail(rt: &HostRuntime, what: &[u8], name: &[u8], error: Error)
     requires { length name.now < 256 }
 {
     let mut text = [0u8; 256];
     let n = name.len();
     put_shown(name, &mut text);
-    say(what);
-    os::fail(&text[0..n]);
+    say(rt, what);
+    explain(rt, &text[0..n], error);
 }
 
 // The same with a reason of our own.
-pub fn refuse(what: &[u8], name: &[u8], why: &[u8])
+pub fn refuse(rt: &HostRuntime, what: &[u8], name: &[u8], why: &[u8])
     requires { length name.now < 256 }
 {
     let mut text = [0u8; 256];
     let n = name.len();
     put_shown(name, &mut text);
-    say(what);
-    say(&text[0..n]);
-    say(why);
+    say(rt, what);
+    say(rt, &text[0..n]);
+    say(rt, why);
 }
 
 // Writes to standard error what cannot be done, and why.
-fn cannot(what: &[u8], why: &[u8]) {
-    say(what);
-    say(why);
+fn cannot(rt: &HostRuntime, what: &[u8], why: &[u8]) {
+    say(rt, what);
+    say(rt, why);
 }
 
 // Whether the name is one that a file may have: of 1 to 255 bytes, none of them 0. Where it is not, standard error says what cannot be done, and why.
-pub fn is_name(what: &[u8], name: &[u8]) -> bool
+pub fn is_name(rt: &HostRuntime, what: &[u8], name: &[u8]) -> bool
     ensures { result ≡ true → length name.now < 256 }
 {
     if name.len() == 0 {
-        cannot(what, b": its name is empty\n");
+        cannot(rt, what, b": its name is empty\n");
         return false;
     }
     if MOST_NAME < name.len() {
-        cannot(what, b": its name has more than 255 bytes\n");
+        cannot(rt, what, b": its name has more than 255 bytes\n");
         return false;
     }
-    if bytes::scan::find(name, 0, name.len(), 0) < name.len() {
-        cannot(what, b": its name has a zero byte\n");
+    if stream::find(name, 0, name.len(), 0) < name.len() {
+        cannot(rt, what, b": its name has a zero byte\n");
         return false;
     }
     true
+}
+
+// The name as the system is asked for it, which it can be only where it is text.
+pub fn path_of(name: &[u8]) -> Result<&str> {
+    match str::from_utf8(name) {
+        Ok(path) => Ok(path),
+        Err(_) => Err(Error::new(ErrorKind::InvalidInput, "its name is not in UTF-8")),
+    }
 }
 
 // Whether the name's last byte is a carriage return, which no terminal shows.
@@ -122,114 +178,99 @@ pub fn ends_in_return(name: &[u8]) -> bool {
 
 // ---- reading
 
-// What a read gave: whether it failed, and how many bytes, 0 at the end.
-#[derive(Clone, Copy)]
-struct Got {
-    failed: bool,
-    count: usize,
-}
-
-// One read into buf from `from` on.
-fn read_once(fd: i32, buf: &mut [u8], from: usize) -> Got
+// One read into buf from `from` on: how many bytes, 0 at the end.
+fn read_once<R: Read>(reader: &mut R, buf: &mut [u8], from: usize) -> Result<usize>
     requires { from ≤ length buf.old }
-    ensures { (from + result.count ≤ length buf.new) × (take from buf.new ≡ take from buf.old) × (result.failed ≡ true → result.count ≡ 0) }
+    ensures within { IfOk result (λ n. from + n ≤ length buf.new) }
+    ensures stays { take from buf.new ≡ take from buf.old }
 {
-    let end = buf.len();
-    let got = libc::read(fd, &mut buf[from..end]);
-    if got < 0 {
-        return Got {
-            failed: true,
-            count: 0,
-        };
-    }
-    Got {
-        failed: false,
-        count: got as usize,
-    }
+    reader.read(&mut buf[from..])
 }
 
-// Whether a signal interrupted the read.
-fn is_interrupted(got: Got) -> bool {
-    got.failed & (os::errno() == EINTR)
-}
-
-// One read into buf from `from` on, tried again where a signal interrupted it. A proved loop has to end, so it counts its turns down from a number that no run uses up.
-fn read_part(fd: i32, buf: &mut [u8], from: usize) -> Got
+// One read into buf from `from` on, tried again where a signal interrupted it. A proved loop has to end, so its turns are counted, up to a number that no run uses up.
+fn read_part<R: Read>(reader: &mut R, buf: &mut [u8], from: usize) -> Result<usize>
     requires { from ≤ length buf.old }
-    ensures { (from + result.count ≤ length buf.new) × (take from buf.new ≡ take from buf.old) × (result.failed ≡ true → result.count ≡ 0) }
+    ensures within { IfOk result (λ n. from + n ≤ length buf.new) }
+    ensures stays { take from buf.new ≡ take from buf.old }
 {
-    let mut turns = u64::MAX;
-    while 0 < turns {
-        let got = read_once(fd, buf, from);
-        if !is_interrupted(got) {
-            return got;
+    for _ in 0..u64::MAX {
+        match read_once(reader, buf, from) {
+            Err(e) if e.kind() == ErrorKind::Interrupted => {}
+            got => return got,
         }
-        turns -= 1;
     }
-    Got {
-        failed: true,
-        count: 0,
+    Err(Error::from(ErrorKind::Interrupted))
+}
+
+// Reads until the buffer is full, the input ends or a read fails; how many bytes came.
+pub fn read_full<R: Read>(reader: &mut R, buf: &mut [u8]) -> usize
+    ensures { result ≤ length buf.new }
+{
+    let mut done = 0;
+    while done < buf.len() {
+        let count = read_once(reader, buf, done).unwrap_or(0);
+        if count == 0 {
+            return done;
+        }
+        done += count;
     }
+    done
 }
 
 // ---- a file
 
-// The file's bytes in the buffer, as far as it reaches; none where a read fails.
-fn read_sheet(fd: i32, sheet: &mut [u8]) -> Got
-    ensures { result.count ≤ length sheet.new }
+// Opens the file of the name, to be read.
+pub fn open(rt: &HostRuntime, name: &[u8]) -> Result<File> {
+    File::open(rt, path_of(name)?)
+}
+
+// The file's bytes in the buffer, as far as it reaches.
+fn read_sheet(file: &mut File, sheet: &mut [u8]) -> Result<usize>
+    ensures { IfOk result (λ n. n ≤ length sheet.new) }
 {
     let mut done = 0;
     while done < sheet.len() {
-        let got = read_part(fd, sheet, done);
-        if got.failed {
-            return Got {
-                failed: true,
-                count: 0,
-            };
-        }
-        let count = got.count;
+        let count = read_part(file, sheet, done)?;
         if count == 0 {
-            return Got {
-                failed: false,
-                count: done,
-            };
+            return Ok(done);
         }
         done += count;
     }
-    Got {
-        failed: false,
-        count: done,
-    }
+    Ok(done)
+}
+
+// The bytes of the file of a name that a file may have.
+fn read_named(rt: &HostRuntime, name: &[u8], sheet: &mut [u8]) -> Result<usize>
+    ensures { IfOk result (λ n. n ≤ length sheet.new) }
+{
+    let mut file = open(rt, name)?;
+    read_sheet(&mut file, sheet)
 }
 
 // Says which file could not be read, and why.
-fn say_unread(name: &[u8])
+fn say_unread(rt: &HostRuntime, name: &[u8], error: Error)
     requires { length name.now < 256 }
 {
-    fail(b"cannot read the sheet ", name);
+    fail(rt, b"cannot read the sheet ", name, error);
     if ends_in_return(name) {
-        say(b"its name ends in a carriage return\n");
+        say(rt, b"its name ends in a carriage return\n");
     }
 }
 
 // The named file's bytes in the buffer; none where the name is empty or too long or has a zero byte, or the file cannot be read.
-pub fn load(name: &[u8], sheet: &mut [u8]) -> usize
+pub fn load(rt: &HostRuntime, name: &[u8], sheet: &mut [u8]) -> usize
     ensures { result ≤ length sheet.new }
 {
-    if !is_name(b"cannot read the sheet", name) {
+    if !is_name(rt, b"cannot read the sheet", name) {
         return 0;
     }
-    let fd = os::open_read(name);
-    if fd < 0 {
-        say_unread(name);
-        return 0;
+    match read_named(rt, name, sheet) {
+        Ok(count) => count,
+        Err(e) => {
+            say_unread(rt, name, e);
+            0
+        }
     }
-    let got = read_sheet(fd, sheet);
-    if got.failed {
-        say_unread(name);
-    }
-    libc::close(fd);
-    got.count
 }
 
 // ---- standard input
@@ -243,17 +284,22 @@ pub struct More {
 
 // Reads more of standard input behind the buffer's first n bytes, which stay as they were. It holds n bytes still where the input has ended, and where the read failed. There has to be room: a read
 // of none would pass for the input's end.
-pub fn read_on(input: &mut [u8], n: usize) -> More
+pub fn read_on(rt: &HostRuntime, input: &mut [u8], n: usize) -> More
     requires { n < length input.old }
     ensures { (n ≤ result.to) × (result.to ≤ length input.new) × (take n input.new ≡ take n input.old) × (result.failed ≡ true → result.to ≡ n) }
 {
-    let got = read_part(STDIN_FILENO, input, n);
-    if got.failed {
-        os::fail(b"cannot read standard input");
-    }
-    More {
-        to: n + got.count,
-        failed: got.failed,
+    match read_part(&mut rt.stdin(), input, n) {
+        Ok(count) => More {
+            to: n + count,
+            failed: false,
+        },
+        Err(e) => {
+            explain(rt, b"cannot read standard input", e);
+            More {
+                to: n,
+                failed: true,
+            }
+        }
     }
 }
 
@@ -269,14 +315,13 @@ pub struct Line {
 
 // The next line of the buffer's bytes from `from` to `to` and what is read behind them, or at the input's end what is left; no further than 256 bytes of it, which is more than a name or a line of a
 // known form has.
-pub fn read_line(input: &mut [u8], from: usize, to: usize) -> Line
+pub fn read_line(rt: &HostRuntime, input: &mut [u8], from: usize, to: usize) -> Line
     requires { (from ≤ to) × (to ≤ length input.old) × (256 < length input.old) }
     ensures { (result.from ≤ result.end) × (result.end ≤ result.next) × (result.next ≤ result.to) × (result.to ≤ length input.new) }
 {
     let mut start = from;
     let mut n = to;
-    let mut turns = u64::MAX;
-    while 0 < turns {
+    for _ in 0..u64::MAX {
         let end = stream::line_end(input, start, n);
         if end < n {
             return Line {
@@ -288,7 +333,7 @@ pub fn read_line(input: &mut [u8], from: usize, to: usize) -> Line
             };
         }
         let kept = stream::keep(input, start, n);
-        let more = read_on(input, kept);
+        let more = read_on(rt, input, kept);
         n = more.to;
         start = 0;
         if n == kept {
@@ -300,7 +345,6 @@ pub fn read_line(input: &mut [u8], from: usize, to: usize) -> Line
                 failed: more.failed,
             };
         }
-        turns -= 1;
     }
     Line {
         from: n,

@@ -49,7 +49,15 @@ fn turn(sheet: &[u8], p: Places, input: &mut [u8], kept: usize, more: More, out:
 
 // Answers the input from `from` on, of which the bytes to `to` are read, and writes the answers out after each piece. A proved loop has to end, so it counts its turns down from a number that no run
 // uses up.
-fn answer_input(sheet: &[u8], p: Places, input: &mut [u8], from: usize, to: usize, out: &mut [u8])
+fn answer_input(
+    rt: &HostRuntime,
+    sheet: &[u8],
+    p: Places,
+    input: &mut [u8],
+    from: usize,
+    to: usize,
+    out: &mut [u8],
+)
     requires { KnownToPass sheet.now p × (from ≤ to) × (to ≤ length input.old) × (most_kept < length input.old) × (line_room * length input.old ≤ length out.old) }
 {
     let done = blocks::answer_block(sheet, p, input, from, to, out);
@@ -57,30 +65,30 @@ fn answer_input(sheet: &[u8], p: Places, input: &mut [u8], from: usize, to: usiz
     let mut turns = u64::MAX;
     while 0 < turns {
         let at = s.done.at;
-        if !files::tell(&out[0..at]) | s.ended {
+        if !files::tell(rt, &out[0..at]) | s.ended {
             return;
         }
         let kept = s.done.kept;
-        let more = files::read_on(input, kept);
+        let more = files::read_on(rt, input, kept);
         s = turn(sheet, p, input, kept, more, out);
         turns -= 1;
     }
 }
 
 // Prints the check's answer and, where it is 0, the answers to the lines behind the name, from `from` on; the bytes to `to` are read.
-fn run(sheet: &[u8], input: &mut [u8], from: usize, to: usize, out: &mut [u8])
+fn run(rt: &HostRuntime, sheet: &[u8], input: &mut [u8], from: usize, to: usize, out: &mut [u8])
     requires { (from ≤ to) × (to ≤ length input.old) × (most_kept < length input.old) × (line_room * length input.old ≤ length out.old) }
 {
     let v = sheet_check::check(sheet);
     let number = v.number;
     let at = lines::put_verdict(out, 0, number, v.kind, v.row);
-    if !files::tell(&out[0..at]) {
+    if !files::tell(rt, &out[0..at]) {
         return;
     }
     if number != 0 {
         return;
     }
-    answer_input(sheet, entries::places_of(sheet), input, from, to, out);
+    answer_input(rt, sheet, entries::places_of(sheet), input, from, to, out);
 }
 
 // The output's memory. It is made apart because the proof of a function that holds so long an array would spell it out.
@@ -90,16 +98,23 @@ fn output() -> [u8; OUTPUT]
     [0; OUTPUT]
 }
 
-fn main() {
-    let mut sheet = io::large_buffer();
+fn main(rt: HostRuntime) {
+    let mut sheet = files::sheet_room();
     let mut input = [0u8; INPUT];
     let mut out = output();
-    let name = files::read_line(&mut input, 0, 0);
+    let name = files::read_line(&rt, &mut input, 0, 0);
     if name.failed {
         return;
     }
     let from = name.from;
     let end = name.end;
-    let size = files::load(&input[from..end], &mut sheet);
-    run(&sheet[0..size], &mut input, name.next, name.to, &mut out);
+    let size = files::load(&rt, &input[from..end], &mut sheet);
+    run(
+        &rt,
+        &sheet[0..size],
+        &mut input,
+        name.next,
+        name.to,
+        &mut out,
+    );
 }

@@ -66,6 +66,7 @@ fn turn(
 // Compares the lines that are held and those of what is read behind them, and writes the changed ones out after each piece; the tally. A proved loop has to end, so it counts its turns down from a
 // number that no run uses up.
 fn compare_input(
+    rt: &HostRuntime,
     old: &[u8],
     new: &[u8],
     places: BothPlaces,
@@ -81,10 +82,10 @@ fn compare_input(
     while 0 < turns {
         let at = s.done.at;
         let a = s.done.tally;
-        if !files::tell(&out[0..at]) | s.ended {
+        if !files::tell(rt, &out[0..at]) | s.ended {
             return a;
         }
-        let more = files::read_on(input, s.done.kept);
+        let more = files::read_on(rt, input, s.done.kept);
         s = turn(old, new, places, input, s.done, more, out);
         turns -= 1;
     }
@@ -92,18 +93,18 @@ fn compare_input(
 }
 
 // Says how many lines were of no known form, and the number of the first one, where there were any.
-fn say_stray(a: Tally) {
+fn say_stray(rt: &HostRuntime, a: Tally) {
     if a.stray == 0 {
         return;
     }
     let mut out = [0u8; 64];
-    files::say(b"lines of no known form: ");
+    files::say(rt, b"lines of no known form: ");
     let n = decimal::put_size(&mut out, 0, less(a.lines, a.points));
-    files::say(&out[0..n]);
-    files::say(b"; the first is line ");
+    files::say(rt, &out[0..n]);
+    files::say(rt, b"; the first is line ");
     let m = decimal::put_size(&mut out, 0, a.stray);
-    files::say(&out[0..m]);
-    files::say(b"\n");
+    files::say(rt, &out[0..m]);
+    files::say(rt, b"\n");
 }
 
 // a less b, 0 where b is more.
@@ -117,7 +118,15 @@ fn less(a: u64, b: u64) -> u64 {
 // ---- the sheets
 
 // Compares the lines from `from` on, of which the bytes to `to` are read, on two sheets known to pass.
-fn compare(old: &[u8], new: &[u8], input: &mut [u8], from: usize, to: usize, out: &mut [u8])
+fn compare(
+    rt: &HostRuntime,
+    old: &[u8],
+    new: &[u8],
+    input: &mut [u8],
+    from: usize,
+    to: usize,
+    out: &mut [u8],
+)
     requires { ((check_of old.now).number ≡ 0) × ((check_of new.now).number ≡ 0) × (from ≤ to) × (to ≤ length input.old) × (most_kept < length input.old) × (change_room * length input.old ≤ length out.old) }
 {
     let p = entries::places_of(old);
@@ -131,12 +140,20 @@ fn compare(old: &[u8], new: &[u8], input: &mut [u8], from: usize, to: usize, out
         stray: 0,
     };
     let h = Held { from, to, tally };
-    let a = compare_input(old, new, places, input, h, out);
-    say_stray(a);
+    let a = compare_input(rt, old, new, places, input, h, out);
+    say_stray(rt, a);
 }
 
 // Prints the check's answer for each sheet and, where both are 0, compares the lines from `from` on.
-fn run(old: &[u8], new: &[u8], input: &mut [u8], from: usize, to: usize, out: &mut [u8])
+fn run(
+    rt: &HostRuntime,
+    old: &[u8],
+    new: &[u8],
+    input: &mut [u8],
+    from: usize,
+    to: usize,
+    out: &mut [u8],
+)
     requires { (from ≤ to) × (to ≤ length input.old) × (most_kept < length input.old) × (change_room * length input.old ≤ length out.old) }
 {
     let v = sheet_check::check(old);
@@ -145,7 +162,7 @@ fn run(old: &[u8], new: &[u8], input: &mut [u8], from: usize, to: usize, out: &m
     let w = sheet_check::check(new);
     let other = w.number;
     let at = lines::put_verdict(out, i, other, w.kind, w.row);
-    if !files::tell(&out[0..at]) {
+    if !files::tell(rt, &out[0..at]) {
         return;
     }
     if number != 0 {
@@ -154,7 +171,7 @@ fn run(old: &[u8], new: &[u8], input: &mut [u8], from: usize, to: usize, out: &m
     if other != 0 {
         return;
     }
-    compare(old, new, input, from, to, out);
+    compare(rt, old, new, input, from, to, out);
 }
 
 // The output's memory. It is made apart because the proof of a function that holds so long an array would spell it out.
@@ -164,26 +181,27 @@ fn output() -> [u8; OUTPUT]
     [0; OUTPUT]
 }
 
-fn main() {
-    let mut old = io::large_buffer();
-    let mut new = io::large_buffer();
+fn main(rt: HostRuntime) {
+    let mut old = files::sheet_room();
+    let mut new = files::sheet_room();
     let mut input = [0u8; INPUT];
     let mut out = output();
-    let first = files::read_line(&mut input, 0, 0);
+    let first = files::read_line(&rt, &mut input, 0, 0);
     if first.failed {
         return;
     }
     let a = first.from;
     let b = first.end;
-    let m = files::load(&input[a..b], &mut old);
-    let second = files::read_line(&mut input, first.next, first.to);
+    let m = files::load(&rt, &input[a..b], &mut old);
+    let second = files::read_line(&rt, &mut input, first.next, first.to);
     if second.failed {
         return;
     }
     let c = second.from;
     let d = second.end;
-    let n = files::load(&input[c..d], &mut new);
+    let n = files::load(&rt, &input[c..d], &mut new);
     run(
+        &rt,
         &old[0..m],
         &new[0..n],
         &mut input,

@@ -1,5 +1,5 @@
 -- The names that a file has on its way to the disk. A name is its bytes.
-use Rattle.std.specs.Prelude.{ℕ, ◌+◌, ◌-◌, cond, List, [], ◌∷◌, ◌++◌, eqb, length, take, replicate}
+use Rattle.std.specs.Prelude.{ℕ, ◌+◌, cond, List, [], ◌∷◌, ◌++◌, eqb, take}
 
 abbrev pub slash : ℕ
 slash = 47
@@ -17,10 +17,6 @@ folder_end name = behind_last 0 0 name
 abbrev pub unfinished : List ℕ
 unfinished = 117 ∷ 110 ∷ 102 ∷ 105 ∷ 110 ∷ 105 ∷ 115 ∷ 104 ∷ 101 ∷ 100 ∷ 46 ∷ 88 ∷ 88 ∷ 88 ∷ 88 ∷ 88 ∷ 88 ∷ []
 
--- The template of the temporary name, whose last six letters the system fills in: in the same folder, so that the file can take its own name by being renamed.
+-- The template of the temporary name, whose last six letters are filled in: in the same folder, so that the file can take its own name by being renamed.
 unfoldable pub temporary_of : List ℕ → List ℕ
 temporary_of name = take (folder_end name) name ++ unfinished
-
--- A path as the system takes it, for a name of fewer than 4,096 bytes, none of them 0: 4,096 bytes, and its text ends at the first 0.
-unfoldable pub path_of : List ℕ → List ℕ
-path_of name = name ++ replicate (4096 - length name) 0

@@ -12,18 +12,18 @@
 #![tactic(auto)]
 
 use contents::Verdict;
-use libc::{STDIN_FILENO, STDOUT_FILENO};
 use point_line::{CONVERGENCE, FORWARD, INVERSE, Line};
+use std::io::Print;
 use touched::Touch;
 
 // ---- printing
 
-fn print(text: &[u8]) {
-    io::write_all(STDOUT_FILENO, text);
+fn print(rt: &HostRuntime, text: &[u8]) {
+    let _ = Print::write_all(rt, text);
 }
 
-fn print_size(n: u64) {
-    io::print_decimal(STDOUT_FILENO, n);
+fn print_size(rt: &HostRuntime, n: u64) {
+    let _ = rt.print(n);
 }
 
 // The size of a number.
@@ -31,41 +31,41 @@ fn size(z: i32) -> u64 {
     rounding::size(z as i64)
 }
 
-fn print_signed(z: i32) {
+fn print_signed(rt: &HostRuntime, z: i32) {
     if z < 0 {
-        print(b"-");
+        print(rt, b"-");
     }
-    print_size(size(z));
+    print_size(rt, size(z));
 }
 
 // An answer: number and two values, each after a blank, and the word half if some rounding met one.
-fn print_answer(number: u32, first: i32, second: i32, half: bool) {
-    print(b" ");
-    print_size(number as u64);
-    print(b" ");
-    print_signed(first);
-    print(b" ");
-    print_signed(second);
+fn print_answer(rt: &HostRuntime, number: u32, first: i32, second: i32, half: bool) {
+    print(rt, b" ");
+    print_size(rt, number as u64);
+    print(rt, b" ");
+    print_signed(rt, first);
+    print(rt, b" ");
+    print_signed(rt, second);
     if half {
-        print(b" half");
+        print(rt, b" half");
     }
 }
 
 // The check's answer: number, kind, row.
-fn print_verdict(v: Verdict) {
-    print_size(v.number as u64);
-    print(b" ");
-    print_size(v.kind as u64);
-    print(b" ");
-    print_size(v.row as u64);
+fn print_verdict(rt: &HostRuntime, v: Verdict) {
+    print_size(rt, v.number as u64);
+    print(rt, b" ");
+    print_size(rt, v.kind as u64);
+    print(rt, b" ");
+    print_size(rt, v.row as u64);
 }
 
 // Whether a correction may change an answer: number, and 1 for yes.
-fn print_touch(t: Touch) {
-    print(b", touched ");
-    print_size(t.number as u64);
-    print(b" ");
-    print_size(t.touched as u64);
+fn print_touch(rt: &HostRuntime, t: Touch) {
+    print(rt, b", touched ");
+    print_size(rt, t.number as u64);
+    print(rt, b" ");
+    print_size(rt, t.touched as u64);
 }
 
 // ---- bytes
@@ -109,55 +109,65 @@ fn differing(before: &[u8], after: &[u8]) -> usize {
 // ---- the list's lines
 
 // Prints the sheet's answer to what a line asks.
-fn answer(sheet: &[u8], l: Line) {
+fn answer(rt: &HostRuntime, sheet: &[u8], l: Line) {
     let form = l.form;
     if form == FORWARD {
         let r = convert::geographic_to_plane(sheet, l.first, l.second);
-        print_answer(r.number, r.x, r.y, r.half);
+        print_answer(rt, r.number, r.x, r.y, r.half);
     } else if form == INVERSE {
         let r = convert::plane_to_geographic(sheet, l.first, l.second);
-        print_answer(r.number, r.latitude, r.longitude, r.half);
+        print_answer(rt, r.number, r.latitude, r.longitude, r.half);
     } else if form == CONVERGENCE {
         let r = convert::convergence_and_scale(sheet, l.first, l.second);
-        print_answer(r.number, r.convergence, r.scale, r.half);
+        print_answer(rt, r.number, r.convergence, r.scale, r.half);
     } else {
-        print(b" 18");
+        print(rt, b" 18");
     }
 }
 
 // Prints whether a correction of the minute's row may change the answer. Convergence and scale take nothing from a latitude row.
-fn touch(sheet: &[u8], minute: i32, l: Line) {
+fn touch(rt: &HostRuntime, sheet: &[u8], minute: i32, l: Line) {
     let form = l.form;
     if form == FORWARD {
-        print_touch(touched::geographic_touched(sheet, minute, l.first, l.second));
+        print_touch(
+            rt,
+            touched::geographic_touched(sheet, minute, l.first, l.second),
+        );
     } else if form == INVERSE {
-        print_touch(touched::plane_touched(sheet, minute, l.first, l.second));
+        print_touch(rt, touched::plane_touched(sheet, minute, l.first, l.second));
     }
 }
 
 // Prints the line and its answer; where the minute's row was corrected, also the answer after that, and whether the correction may change it.
-fn ask(line: &[u8], before: &[u8], after: &[u8], corrected: bool, minute: i32) {
+fn ask(rt: &HostRuntime, line: &[u8], before: &[u8], after: &[u8], corrected: bool, minute: i32) {
     let l = point_line::line_of(line);
-    print(line);
-    print(b":");
-    answer(before, l);
+    print(rt, line);
+    print(rt, b":");
+    answer(rt, before, l);
     if corrected {
-        print(b",");
-        answer(after, l);
-        touch(before, minute, l);
+        print(rt, b",");
+        answer(rt, after, l);
+        touch(rt, before, minute, l);
     }
-    print(b"\n");
+    print(rt, b"\n");
 }
 
 // The same for every line of the list.
-fn ask_each(list: &[u8], before: &[u8], after: &[u8], corrected: bool, minute: i32) {
+fn ask_each(
+    rt: &HostRuntime,
+    list: &[u8],
+    before: &[u8],
+    after: &[u8],
+    corrected: bool,
+    minute: i32,
+) {
     let n = list.len();
     let mut at = 0;
     while at < n {
         let end = stream::line_end(list, at, n);
         let line = part(list, at, end);
         if point_line::is_form(decimal::byte_at(line, 0)) {
-            ask(line, before, after, corrected, minute);
+            ask(rt, line, before, after, corrected, minute);
         }
         at = end + 1;
     }
@@ -166,35 +176,42 @@ fn ask_each(list: &[u8], before: &[u8], after: &[u8], corrected: bool, minute: i
 // ---- the script's lines
 
 // Prints what a correction changed: the check's answer after it, and in how many bytes the sheet differs.
-fn print_change(before: &[u8], after: &[u8]) {
-    print(b" check ");
-    print_verdict(sheet_check::check(after));
-    print(b" bytes ");
-    print_size(differing(before, after) as u64);
-    print(b"\n");
+fn print_change(rt: &HostRuntime, before: &[u8], after: &[u8]) {
+    print(rt, b" check ");
+    print_verdict(rt, sheet_check::check(after));
+    print(rt, b" bytes ");
+    print_size(rt, differing(before, after) as u64);
+    print(rt, b"\n");
 }
 
 // Corrects the sheet by the line, and prints the number, what it changed, and the list's lines.
-fn correct(line: &[u8], list: &[u8], sheet: &mut [u8]) {
-    let mut space = io::large_buffer();
+fn correct(rt: &HostRuntime, line: &[u8], list: &[u8], sheet: &mut [u8]) {
+    let mut space = files::sheet_room();
     let room: &mut [u8] = &mut space;
     let n = copy(sheet, room);
     let before = part(room, 0, n);
     let row = part(line, 2, line.len());
     let number = row_line::correct_by(sheet, row);
-    print(line);
-    print(b": ");
-    print_size(number as u64);
-    print(b"\n");
-    print_change(before, sheet);
-    ask_each(list, before, sheet, true, row_line::row_asked(row).minute);
+    print(rt, line);
+    print(rt, b": ");
+    print_size(rt, number as u64);
+    print(rt, b"\n");
+    print_change(rt, before, sheet);
+    ask_each(
+        rt,
+        list,
+        before,
+        sheet,
+        true,
+        row_line::row_asked(row).minute,
+    );
 }
 
 // Puts the named file's bytes at the start of the sheet, zeros behind them, and answers how many there are.
-fn load(name: &[u8], sheet: &mut [u8]) -> usize {
-    let mut space = io::large_buffer();
+fn load(rt: &HostRuntime, name: &[u8], sheet: &mut [u8]) -> usize {
+    let mut space = files::sheet_room();
     let fresh: &mut [u8] = &mut space;
-    let n = files::load(name, fresh);
+    let n = files::load(rt, name, fresh);
     copy(fresh, sheet);
     n
 }
@@ -224,35 +241,42 @@ fn length_of(line: &[u8], all: usize) -> usize {
 }
 
 // Loads the named sheet, changes it as the line says, prints the check's answer to it, and answers its length.
-fn judge(line: &[u8], name: &[u8], sheet: &mut [u8]) -> usize {
-    let all = load(name, sheet);
+fn judge(rt: &HostRuntime, line: &[u8], name: &[u8], sheet: &mut [u8]) -> usize {
+    let all = load(rt, name, sheet);
     spoil(line, sheet);
     let n = length_of(line, all);
-    print(line);
-    print(b": ");
-    print_verdict(sheet_check::check(part(sheet, 0, n)));
-    print(b"\n");
+    print(rt, line);
+    print(rt, b": ");
+    print_verdict(rt, sheet_check::check(part(sheet, 0, n)));
+    print(rt, b"\n");
     n
 }
 
 // Does what the line says, on the sheet of that length, and answers its length then. Lines that are noted or passed over do nothing here.
-fn obey(line: &[u8], name: &[u8], list: &[u8], sheet: &mut [u8], length: usize) -> usize {
+fn obey(
+    rt: &HostRuntime,
+    line: &[u8],
+    name: &[u8],
+    list: &[u8],
+    sheet: &mut [u8],
+    length: usize,
+) -> usize {
     let first = decimal::byte_at(line, 0);
     if (first == 0) | (first == b'#') | (first == b'l') | point_line::is_form(first) {
         return length;
     }
     if first == b'a' {
         let s = part(sheet, 0, length);
-        ask_each(list, s, s, false, 0);
+        ask_each(rt, list, s, s, false, 0);
         return length;
     }
     if first == b'C' {
         if length <= sheet.len() {
-            correct(line, list, &mut sheet[0..length]);
+            correct(rt, line, list, &mut sheet[0..length]);
         }
         return length;
     }
-    judge(line, name, sheet)
+    judge(rt, line, name, sheet)
 }
 
 // Whether a line that begins with the byte is a file's name.
@@ -261,8 +285,8 @@ fn is_name(b: u8) -> bool {
 }
 
 // Works through the script. The name and the list are the parts of it that were met last.
-fn run(script: &[u8]) {
-    let mut space = io::large_buffer();
+fn run(rt: &HostRuntime, script: &[u8]) {
+    let mut space = files::sheet_room();
     let sheet: &mut [u8] = &mut space;
     let n = script.len();
     let mut name = 0;
@@ -288,14 +312,14 @@ fn run(script: &[u8]) {
         }
         let named = part(script, name, name_end);
         let listed = part(script, list, list_end);
-        count = obey(line, named, listed, sheet, count);
+        count = obey(rt, line, named, listed, sheet, count);
         at = end + 1;
     }
 }
 
-fn main() {
-    let mut space = io::large_buffer();
+fn main(rt: HostRuntime) {
+    let mut space = files::sheet_room();
     let script: &mut [u8] = &mut space;
-    let n = io::read_full(STDIN_FILENO, script);
-    run(part(script, 0, n));
+    let n = files::read_full(&mut rt.stdin(), script);
+    run(&rt, part(script, 0, n));
 }

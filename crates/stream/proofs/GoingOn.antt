@@ -8,7 +8,7 @@ use borrow.Author.Tests.{not-true}
 use lib.Dec.{T, eqb}
 use lib.ListN.{length, get_or}
 use lib.Seq.{slice, slice-cons}
-use Rattle.bytes.specs.Bytes.{index_of}
+use Rattle.stream.specs.Search.{index_of}
 use Rattle.stream.specs.Stream.{goes_on, all_go_on}
 use Rattle.stream.proofs.Splitting.{index_there}
 

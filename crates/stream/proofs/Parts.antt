@@ -5,7 +5,7 @@ use Prim.Native.Nat.{ℕ, suc, ◌+◌, ◌-◌, ◌≤◌, ◌<◌}
 use native.Mathlib.Omega.{arith}
 use lib.ListN.{length, take, drop}
 use lib.Seq.{take-take, drop-drop, slice, length-slice}
-use Rattle.bytes.specs.Bytes.{index_of}
+use Rattle.stream.specs.Search.{index_of}
 use Rattle.stream.specs.Stream.{ended_lines, unended}
 use Rattle.stream.proofs.Splitting.{first_line, no_line}
 use Rattle.stream.proofs.Moving.{take_of_drop, part_is}

@@ -6,7 +6,7 @@ use Prim.Native.Nat.{ℕ, zero, suc, ◌<◌}
 use native.Mathlib.Omega.{arith}
 use lib.Dec.{eqb}
 use lib.ListN.{length, take, drop}
-use Rattle.bytes.specs.Bytes.{index_after, index_of}
+use Rattle.stream.specs.Search.{index_of}
 use Rattle.stream.specs.Stream.{last_line, lines_from, lines_of, ended_from, ended_lines, unended_from, unended}
 
 pub snoc : (l : List ℕ) (b : ℕ) (m : List ℕ) → (l ++ b ∷ []) ++ m ≡ l ++ b ∷ m
@@ -18,11 +18,11 @@ NoEnd text = index_of 10 text ≡ length text
 
 -- ---- where a line feed stands first, and where none does
 index_here : (b : ℕ) (text : List ℕ) → eqb b 10 ≡ true → index_of 10 (b ∷ text) ≡ 0
-unfolding index_of index_after
+unfolding index_of
 index_here b text t = rw t
 
 pub index_there : (b : ℕ) (text : List ℕ) → eqb b 10 ≡ false → index_of 10 (b ∷ text) ≡ suc (index_of 10 text)
-unfolding index_of index_after
+unfolding index_of
 index_there b text t = rw t
 
 pub no_end_none : NoEnd []

@@ -4,7 +4,7 @@
 
 ghost use Rattle.std.specs.Prelude.{◌≡◌, ◌+◌, ◌≤◌, ◌<◌, min, ◌++◌, length, take, drop};
 ghost use Rattle.std.proofs.Math.Seq.{slice};
-ghost use Rattle.bytes.specs.Bytes.{index_of};
+ghost use Rattle.stream.specs.Search.{index_of};
 ghost use Rattle.stream.specs.Stream.{goes_on, all_go_on, most_kept};
 
 pub const LINE_FEED: u8 = 10;
@@ -35,6 +35,18 @@ fn eight_go_on(b: &[u8], i: usize) -> bool
         & goes_on(b, i + 7)
 }
 
+// Where the first byte from `from` on stands that is `byte`; `to`, where none before it is.
+pub fn find(text: &[u8], from: usize, to: usize, byte: u8) -> usize
+    requires { (from ≤ to) × (to ≤ length text.now) }
+    ensures { (result ≡ from + index_of byte (slice from to text.now)) × (result ≤ to) }
+{
+    let mut i = from;
+    while i < to && text[i] != byte {
+        i += 1;
+    }
+    i
+}
+
 // Where the line from `from` on ends: at its line feed, or at `to` where it has not ended. It goes by eight bytes, and in the last of them byte by byte.
 pub fn line_end(buffer: &[u8], from: usize, to: usize) -> usize
     requires { (from ≤ to) × (to ≤ length buffer.now) }
@@ -44,7 +56,7 @@ pub fn line_end(buffer: &[u8], from: usize, to: usize) -> usize
     while 8 <= to - i && eight_go_on(buffer, i) {
         i += 8;
     }
-    bytes::scan::find(buffer, i, to, LINE_FEED)
+    find(buffer, i, to, LINE_FEED)
 }
 
 // Moves the n bytes from `from` on to the buffer's front.

@@ -12,8 +12,9 @@ ghost use Rattle.tables.specs.Figures.{InTable};
 ghost use Rattle.extent.specs.Extent.{latitude_known, longitude_known, northing_known};
 
 use entries::Places;
-use libc::STDOUT_FILENO;
 use reading::At;
+use std::io::Print;
+use std::rt::Env;
 
 // Latitude, longitude, x and y, each as the form prints it. Indiana, document 000.
 const INDIANA: [[i32; 4]; 4] = [
@@ -29,84 +30,92 @@ const HAWAII: [[i32; 4]; 2] = [
     [70_643_477, 561_556_911, 33_205_094, 28_706_835], // Kahela
 ];
 
-fn print(text: &[u8]) {
-    io::write_all(STDOUT_FILENO, text);
+fn print(rt: &HostRuntime, text: &[u8]) {
+    let _ = Print::write_all(rt, text);
 }
 
-fn print_size(name: &[u8], n: u64) {
-    print(name);
-    io::print_decimal(STDOUT_FILENO, n);
+fn print_size(rt: &HostRuntime, name: &[u8], n: u64) {
+    print(rt, name);
+    let _ = rt.print(n);
 }
 
 // A name and a figure. No figure is the least number, which has no size.
-fn print_figure(name: &[u8], z: i64) {
-    print(name);
+fn print_figure(rt: &HostRuntime, name: &[u8], z: i64) {
+    print(rt, name);
     if z < -9_223_372_036_854_775_807 {
         return;
     }
     if z < 0 {
-        print(b"-");
+        print(rt, b"-");
     }
-    io::print_decimal(STDOUT_FILENO, rounding::size(z));
+    let _ = rt.print(rounding::size(z));
 }
 
 // Two numbers, each after a blank.
-fn print_pair(first: i32, second: i32) {
-    print_figure(b" ", first as i64);
-    print_figure(b" ", second as i64);
+fn print_pair(rt: &HostRuntime, first: i32, second: i32) {
+    print_figure(rt, b" ", first as i64);
+    print_figure(rt, b" ", second as i64);
 }
 
 // A line, and its answer: letter and two numbers; number and two values; a line feed.
-fn print_line(letter: &[u8], first: i32, second: i32, number: u32, third: i32, fourth: i32) {
-    print(letter);
-    print_pair(first, second);
-    print_size(b": ", number as u64);
-    print_pair(third, fourth);
-    print(b"\n");
+fn print_line(
+    rt: &HostRuntime,
+    letter: &[u8],
+    first: i32,
+    second: i32,
+    number: u32,
+    third: i32,
+    fourth: i32,
+) {
+    print(rt, letter);
+    print_pair(rt, first, second);
+    print_size(rt, b": ", number as u64);
+    print_pair(rt, third, fourth);
+    print(rt, b"\n");
 }
 
 // ---- on a sheet
 
 // What the sheet has at a latitude's position.
-fn show_latitude(s: &[u8], p: Places, at: At)
+fn show_latitude(rt: &HostRuntime, s: &[u8], p: Places, at: At)
     requires { KnownToPass s.now p × InTable s.now latitude at }
 {
-    print_figure(b" y0 ", tables::y0_at(s, p, at).value);
-    print_size(b" H ", tables::h_at(s, p, at).value);
-    print_size(b" V ", tables::v_at(s, p, at).value);
-    print_figure(b" a ", tables::a_at(s, p, at).value);
+    print_figure(rt, b" y0 ", tables::y0_at(s, p, at).value);
+    print_size(rt, b" H ", tables::h_at(s, p, at).value);
+    print_size(rt, b" V ", tables::v_at(s, p, at).value);
+    print_figure(rt, b" a ", tables::a_at(s, p, at).value);
 }
 
 // What it has at a size of L.
-fn show_longitude(s: &[u8], p: Places, size: u64)
+fn show_longitude(rt: &HostRuntime, s: &[u8], p: Places, size: u64)
     requires { KnownToPass s.now p × Within s.now longitude size }
 {
     let at = extent::position(s, p.longitude, entries::LONGITUDE, p.longitude.step, size);
-    print_size(b" q ", steps::q_of(size).value);
-    print_figure(b" b ", tables::b_at(s, p, at).value);
-    print_figure(b" c ", tables::c_at(s, p, at).value);
+    print_size(rt, b" q ", steps::q_of(size).value);
+    print_figure(rt, b" b ", tables::b_at(s, p, at).value);
+    print_figure(rt, b" c ", tables::c_at(s, p, at).value);
 }
 
 // The figures of the way forward, of a latitude and a longitude within the tables.
-fn show_point(s: &[u8], p: Places, latitude: i32, longitude: i32)
+fn show_point(rt: &HostRuntime, s: &[u8], p: Places, latitude: i32, longitude: i32)
     requires { KnownToPass s.now p × (latitude_known s.now latitude ≡ true) × (longitude_known s.now longitude ≡ true) }
 {
     let o = tables::origin_of(s, p);
     let t = extent::from_first(s, o, latitude) as u64;
     let l = extent::l_of(s, o, longitude);
     let north = extent::position(s, p.latitude, entries::LATITUDE, entries::ONE_MINUTE, t);
-    show_latitude(s, p, north);
-    print_figure(b" L ", l);
-    show_longitude(s, p, rounding::size(l));
-    print(b"\n");
+    show_latitude(rt, s, p, north);
+    print_figure(rt, b" L ", l);
+    show_longitude(rt, s, p, rounding::size(l));
+    print(rt, b"\n");
 }
 
 // A station forward, with the figures on the way.
-fn forward(s: &[u8], p: Places, latitude: i32, longitude: i32)
+fn forward(rt: &HostRuntime, s: &[u8], p: Places, latitude: i32, longitude: i32)
     requires { KnownToPass s.now p }
 {
     let r = convert::geographic_to_plane(s, latitude, longitude);
-    print_line(b"G", latitude, longitude, r.number, r.x, r.y);
+    print_line(rt, b"G", latitude, longitude, r.number, r.x, r.y);
     let o = tables::origin_of(s, p);
     if !extent::latitude_known(s, p, o, latitude) {
         return;
@@ -114,30 +123,31 @@ fn forward(s: &[u8], p: Places, latitude: i32, longitude: i32)
     if !extent::longitude_known(s, p, o, longitude) {
         return;
     }
-    show_point(s, p, latitude, longitude);
+    show_point(rt, s, p, latitude, longitude);
 }
 
 // The figures of the way back as far as the reduced northing, at the size x of x' and y.
-fn show_reduction(s: &[u8], p: Places, x: u64, y: i32)
+fn show_reduction(rt: &HostRuntime, s: &[u8], p: Places, x: u64, y: i32)
     requires { KnownToPass s.now p × Within s.now easting x × (northing_known s.now y ≡ true) }
 {
     let read = inverse::for_reduction(s, p, x, y);
-    print_size(b" P ", read.p.value);
-    print_figure(b" d ", read.d.value);
+    print_size(rt, b" P ", read.p.value);
+    print_figure(rt, b" d ", read.d.value);
     print_figure(
+        rt,
         b" reduction ",
         steps::reduction(read.p.value, x, read.d.value).value,
     );
-    print_figure(b" reduced ", inverse::reduced_of(read, x, y).value);
-    print(b"\n");
+    print_figure(rt, b" reduced ", inverse::reduced_of(read, x, y).value);
+    print(rt, b"\n");
 }
 
 // A station back, with the figures on the way.
-fn back(s: &[u8], p: Places, x: i32, y: i32)
+fn back(rt: &HostRuntime, s: &[u8], p: Places, x: i32, y: i32)
     requires { KnownToPass s.now p }
 {
     let r = convert::plane_to_geographic(s, x, y);
-    print_line(b"P", x, y, r.number, r.latitude, r.longitude);
+    print_line(rt, b"P", x, y, r.number, r.latitude, r.longitude);
     let o = tables::origin_of(s, p);
     let xp = extent::x_prime(s, o, x);
     if !extent::easting_known(s, p, xp) {
@@ -146,122 +156,127 @@ fn back(s: &[u8], p: Places, x: i32, y: i32)
     if !extent::northing_known(s, p, y) {
         return;
     }
-    show_reduction(s, p, rounding::size(xp), y);
+    show_reduction(rt, s, p, rounding::size(xp), y);
 }
 
 // A station, at its latitude, longitude, x and y: forward, back, and its convergence and scale.
-fn station(s: &[u8], p: Places, point: [i32; 4])
+fn station(rt: &HostRuntime, s: &[u8], p: Places, point: [i32; 4])
     requires { KnownToPass s.now p }
 {
-    forward(s, p, point[0], point[1]);
-    back(s, p, point[2], point[3]);
+    forward(rt, s, p, point[0], point[1]);
+    back(rt, s, p, point[2], point[3]);
     let r = convert::convergence_and_scale(s, point[2], point[3]);
-    print_line(b"S", point[2], point[3], r.number, r.convergence, r.scale);
+    print_line(
+        rt,
+        b"S",
+        point[2],
+        point[3],
+        r.number,
+        r.convergence,
+        r.scale,
+    );
 }
 
 // Every station of a table.
-fn station_each(s: &[u8], p: Places, points: &[[i32; 4]])
+fn station_each(rt: &HostRuntime, s: &[u8], p: Places, points: &[[i32; 4]])
     requires { KnownToPass s.now p }
 {
     let mut k = 0;
     while k < points.len() {
-        station(s, p, points[k]);
+        station(rt, s, p, points[k]);
         k += 1;
     }
 }
 
 // The stations on the sheet's first n bytes, where they pass the check.
-fn work(sheet: &[u8], n: usize, points: &[[i32; 4]])
+fn work(rt: &HostRuntime, sheet: &[u8], n: usize, points: &[[i32; 4]])
     requires { n ≤ length sheet.now }
 {
     let s = &sheet[0..n];
     if sheet_check::check(s).number == 0 {
-        station_each(s, entries::places_of(s), points);
+        station_each(rt, s, entries::places_of(s), points);
     }
 }
 
 // Puts the file's bytes at the start of sheet, and answers how many there are; none for a file that cannot be opened.
-fn load(name: &[u8], sheet: &mut [u8]) -> usize
+fn load(rt: &HostRuntime, name: &[u8], sheet: &mut [u8]) -> usize
     ensures { result ≤ length sheet.new }
 {
-    let fd = os::open_read(name);
-    if fd < 0 {
-        return 0;
+    match files::open(rt, name) {
+        Ok(mut file) => files::read_full(&mut file, sheet),
+        Err(_) => 0,
     }
-    let n = io::read_full(fd, sheet);
-    libc::close(fd);
-    n
 }
 
 // Loads the sheet that argument i names, prints its name, and works the stations.
-fn work_sheet(i: usize, points: &[[i32; 4]]) {
-    let mut path = io::buffer();
-    let k = os::arg(i, &mut path);
+fn work_sheet(rt: &HostRuntime, i: usize, points: &[[i32; 4]]) {
+    let mut path = [0u8; 4096];
+    let k = rt.arg(i, &mut path).unwrap_or(0);
     let name = &path[..k];
-    print(name);
-    print(b"\n");
-    let mut space = io::large_buffer();
+    print(rt, name);
+    print(rt, b"\n");
+    let mut space = files::sheet_room();
     let sheet: &mut [u8] = &mut space;
-    let n = load(name, sheet);
-    work(sheet, n, points);
+    let n = load(rt, name, sheet);
+    work(rt, sheet, n, points);
 }
 
 // ---- from printed figures
 
 // The steps forward: q, the size of x', and the rise.
-fn step_forward(s: u64, h: u64, v: u64, a: i64, b: i64, c: i64)
+fn step_forward(rt: &HostRuntime, s: u64, h: u64, v: u64, a: i64, b: i64, c: i64)
     requires { (s ≤ most_s) × (h ≤ most_h) × (v ≤ most_v) × (nat_abs a ≤ most_a) × (nat_abs b ≤ most_b) × (nat_abs c ≤ most_c) × T (non_neg (pos (h * s) +ℤ a *ℤ b *ℤ pos 1_000)) }
 {
     let q = steps::q_of(s).value;
-    print_size(b": q ", q);
-    print_size(b" x ", steps::size_of_x(h, s, a, b).value);
-    print_figure(b" rise ", steps::rise(v, q, c).value);
+    print_size(rt, b": q ", q);
+    print_size(rt, b" x ", steps::size_of_x(h, s, a, b).value);
+    print_figure(rt, b" rise ", steps::rise(v, q, c).value);
 }
 
 // The steps back: the reduction, approximate L, and the size of L.
-fn step_back(x: u64, h: u64, a: i64, b: i64, p: u64, d: i64)
+fn step_back(rt: &HostRuntime, x: u64, h: u64, a: i64, b: i64, p: u64, d: i64)
     requires { (x ≤ most_x) × (0 < h) × (h ≤ most_h) × (nat_abs a ≤ most_a) × (nat_abs b ≤ most_b) × (p ≤ most_p) × (nat_abs d ≤ most_d) × T (non_neg (pos (x * 10_000) -ℤ a *ℤ b)) }
 {
-    print_figure(b" reduction ", steps::reduction(p, x, d).value);
-    print_size(b" approximate ", steps::approximate_l(x, h).value);
-    print_size(b" L ", steps::size_of_l(x, a, b, h).value);
+    print_figure(rt, b" reduction ", steps::reduction(p, x, d).value);
+    print_size(rt, b" approximate ", steps::approximate_l(x, h).value);
+    print_size(rt, b" L ", steps::size_of_l(x, a, b, h).value);
 }
 
 // Δα.
-fn step_across(m: u64, x: i64)
+fn step_across(rt: &HostRuntime, m: u64, x: i64)
     requires { (m ≤ most_m) × (nat_abs x ≤ most_word) }
 {
-    print_figure(b" convergence ", steps::convergence(m, x).value);
-    print(b"\n");
+    print_figure(rt, b" convergence ", steps::convergence(m, x).value);
+    print(rt, b"\n");
 }
 
 // Illinois, document 001: Naper and King.
-fn illinois() {
-    print(b"Naper");
-    step_forward(773_210, 75_777_729, 1_223_859, -367, 1_596, -13);
-    step_back(5_859_151, 75_777_729, -367, 1_596, 213_085, 0);
-    step_across(87_908, 5_859_151);
-    print(b"King");
-    step_forward(1_295_208, 76_992_654, 1_217_932, -492, 2_545, -38);
-    step_back(9_972_025, 76_992_654, -492, 2_545, 205_416, 1);
-    step_across(84_745, -9_972_025);
+fn illinois(rt: &HostRuntime) {
+    print(rt, b"Naper");
+    step_forward(rt, 773_210, 75_777_729, 1_223_859, -367, 1_596, -13);
+    step_back(rt, 5_859_151, 75_777_729, -367, 1_596, 213_085, 0);
+    step_across(rt, 87_908, 5_859_151);
+    print(rt, b"King");
+    step_forward(rt, 1_295_208, 76_992_654, 1_217_932, -492, 2_545, -38);
+    step_back(rt, 9_972_025, 76_992_654, -492, 2_545, 205_416, 1);
+    step_across(rt, 84_745, -9_972_025);
 }
 
 // Vermont, document 002: Stowell and Irish. Irish's form has a Δα of 0.1″ less in size, since Vermont takes off e, and the rules, by document 003, do not.
-fn vermont() {
-    print(b"Stowell");
-    step_forward(28_582, 74_110_975, 1_229_237, -726, 17, 0);
-    step_back(211_823, 74_110_975, -726, 17, 223_754, 0);
-    step_across(92_311, 211_823);
-    print(b"Irish");
-    step_forward(2_526_978, 72_635_503, 1_231_546, -263, 1_098, -107);
-    step_back(18_354_803, 72_635_503, -263, 1_098, 233_389, 2);
-    step_across(96_287, -18_354_803);
+fn vermont(rt: &HostRuntime) {
+    print(rt, b"Stowell");
+    step_forward(rt, 28_582, 74_110_975, 1_229_237, -726, 17, 0);
+    step_back(rt, 211_823, 74_110_975, -726, 17, 223_754, 0);
+    step_across(rt, 92_311, 211_823);
+    print(rt, b"Irish");
+    step_forward(rt, 2_526_978, 72_635_503, 1_231_546, -263, 1_098, -107);
+    step_back(rt, 18_354_803, 72_635_503, -263, 1_098, 233_389, 2);
+    step_across(rt, 96_287, -18_354_803);
 }
 
-fn main() {
-    work_sheet(1, &INDIANA);
-    work_sheet(2, &HAWAII);
-    illinois();
-    vermont();
+fn main(rt: HostRuntime) {
+    work_sheet(&rt, 1, &INDIANA);
+    work_sheet(&rt, 2, &HAWAII);
+    illinois(&rt);
+    vermont(&rt);
 }

@@ -7,8 +7,9 @@ ghost use Rattle.std.specs.Prelude.{◌≡◌, ◌≤◌, length};
 
 use counts::Whole;
 use door::{Answer, Point};
-use libc::STDOUT_FILENO;
 use reader::Entry;
+use std::io::Print;
+use std::rt::Env;
 
 // Latitude and longitude of four points: the listing's two, one below the first latitude row, one past the last row of kind 3.
 const POINTS: [i32; 8] = [
@@ -42,77 +43,77 @@ const PAIRS: [[f64; 2]; 13] = [
 // Counts of 0.01 ft.
 const FEET: [i32; 5] = [12_413_141, -1, 0, 2_147_483_647, -2_147_483_648];
 
-fn put(b: u8) {
+fn put(rt: &HostRuntime, b: u8) {
     let text = [b];
-    io::write_all(STDOUT_FILENO, &text);
+    let _ = Print::write_all(rt, &text);
 }
 
 // Numbers, each after a blank.
-fn put_size(n: u64) {
-    put(b' ');
-    io::print_decimal(STDOUT_FILENO, n);
+fn put_size(rt: &HostRuntime, n: u64) {
+    put(rt, b' ');
+    let _ = rt.print(n);
 }
 
-fn put_signed(z: i32) {
+fn put_signed(rt: &HostRuntime, z: i32) {
     let wide = z as i64;
-    put(b' ');
+    put(rt, b' ');
     if wide < 0 {
-        put(b'-');
+        put(rt, b'-');
     }
-    io::print_decimal(STDOUT_FILENO, rounding::size(wide));
+    let _ = rt.print(rounding::size(wide));
 }
 
 // A float; a NaN has no bits here.
-fn put_float(x: f64) {
+fn put_float(rt: &HostRuntime, x: f64) {
     if x != x {
-        put(b' ');
-        put(b'?');
+        put(rt, b' ');
+        put(rt, b'?');
         return;
     }
     let bits: u64 = f64::to_bits(x);
     if let Whole::Count(n) = counts::whole_of(x) {
-        put_signed(n);
+        put_signed(rt, n);
     } else {
-        put(b' ');
+        put(rt, b' ');
     }
-    put(b'/');
-    io::print_hex(STDOUT_FILENO, bits, 16);
+    put(rt, b'/');
+    let _ = print!(rt; "{bits:016x}");
 }
 
 // Words, and a line feed.
-fn put_words(words: &[i32]) {
+fn put_words(rt: &HostRuntime, words: &[i32]) {
     let mut k = 0;
     while k < words.len() {
-        put_signed(words[k]);
+        put_signed(rt, words[k]);
         k += 1;
     }
-    put(b'\n');
+    put(rt, b'\n');
 }
 
 // ---- the reader of contents
 
 // Kind, start and rows; a point for the end.
-fn put_entry(entry: Entry) {
-    put(b':');
+fn put_entry(rt: &HostRuntime, entry: Entry) {
+    put(rt, b':');
     match entry {
         Entry::Of(kind, start, rows) => {
-            put_size(kind as u64);
-            put_size(start as u64);
-            put_size(rows as u64);
+            put_size(rt, kind as u64);
+            put_size(rt, start as u64);
+            put_size(rt, rows as u64);
         }
-        Entry::End => put(b'.'),
+        Entry::End => put(rt, b'.'),
     }
-    put(b'\n');
+    put(rt, b'\n');
 }
 
 // Entries 0 to 6, the last past the end.
-fn read_each(sheet: &[u8]) {
+fn read_each(rt: &HostRuntime, sheet: &[u8]) {
     let mut e = 0;
     while e < 7 {
-        put(b'R');
-        put_size(sheet.len() as u64);
-        put_size(e as u64);
-        put_entry(reader::read_entry(sheet, e));
+        put(rt, b'R');
+        put_size(rt, sheet.len() as u64);
+        put_size(rt, e as u64);
+        put_entry(rt, reader::read_entry(sheet, e));
         e += 1;
     }
 }
@@ -126,88 +127,90 @@ fn marks() -> [i32; 12291]
     [-7; 12291]
 }
 
-fn put_batch(bytes: u64, words: u64, room: u64, number: u64, count: u64) {
-    put(b'B');
-    put_size(bytes);
-    put_size(words);
-    put_size(room);
-    put(b':');
-    put_size(number);
-    put_size(count);
+fn put_batch(rt: &HostRuntime, bytes: u64, words: u64, room: u64, number: u64, count: u64) {
+    put(rt, b'B');
+    put_size(rt, bytes);
+    put_size(rt, words);
+    put_size(rt, room);
+    put(rt, b':');
+    put_size(rt, number);
+    put_size(rt, count);
 }
 
 // A batch that is lent the first `room` words of the memory.
-fn work(sheet: &[u8], points: &[i32], memory: &mut [i32], room: usize)
+fn work(rt: &HostRuntime, sheet: &[u8], points: &[i32], memory: &mut [i32], room: usize)
     requires { (room ≤ length memory.old) × (14 ≤ length memory.old) }
 {
     let r = batch::batch(sheet, points, &mut memory[0..room]);
     put_batch(
+        rt,
         sheet.len() as u64,
         points.len() as u64,
         room as u64,
         r.number as u64,
         r.count as u64,
     );
-    put_words(&memory[0..14]);
+    put_words(rt, &memory[0..14]);
 }
 
 // The points; then in one memory: an odd batch, too little room, a point too many, 76 zeros for a sheet, no point, all points.
-fn batches(sheet: &[u8], many: &[i32], memory: &mut [i32])
+fn batches(rt: &HostRuntime, sheet: &[u8], many: &[i32], memory: &mut [i32])
     requires { (8_194 ≤ length many.now) × (12_291 ≤ length memory.old) }
 {
     let points: &[i32] = &POINTS;
-    put_words(points);
-    work(sheet, &points[0..7], memory, 14);
-    work(sheet, points, memory, 11);
-    work(sheet, &many[0..8194], memory, 12_291);
-    work(&[0; 76], points, memory, 14);
-    work(sheet, &points[0..0], memory, 14);
-    work(sheet, points, memory, 14);
+    put_words(rt, points);
+    work(rt, sheet, &points[0..7], memory, 14);
+    work(rt, sheet, points, memory, 11);
+    work(rt, sheet, &many[0..8194], memory, 12_291);
+    work(rt, &[0; 76], points, memory, 14);
+    work(rt, sheet, &points[0..0], memory, 14);
+    work(rt, sheet, points, memory, 14);
 }
 
 // ---- the tools' door
 
-fn put_asked(letter: u8, bytes: u64, p: Point) {
-    put(letter);
-    put_size(bytes);
-    put_float(p.first);
-    put_float(p.second);
-    put(b':');
+fn put_asked(rt: &HostRuntime, letter: u8, bytes: u64, p: Point) {
+    put(rt, letter);
+    put_size(rt, bytes);
+    put_float(rt, p.first);
+    put_float(rt, p.second);
+    put(rt, b':');
 }
 
 // Number and values, and the word half if some rounding met one; or the refusal number.
-fn put_answer(r: Answer) {
+fn put_answer(rt: &HostRuntime, r: Answer) {
     match r {
         Answer::Counts(first, second, half) => {
-            put_size(0);
-            put_float(first);
-            put_float(second);
+            put_size(rt, 0);
+            put_float(rt, first);
+            put_float(rt, second);
             if half {
-                io::write_all(STDOUT_FILENO, b" half");
+                let _ = Print::write_all(rt, b" half");
             }
         }
-        Answer::Refused(number) => put_size(number as u64),
+        Answer::Refused(number) => put_size(rt, number as u64),
     }
-    put(b'\n');
+    put(rt, b'\n');
 }
 
 // A point in all three ways.
-fn ask(sheet: &[u8], p: Point) {
+fn ask(rt: &HostRuntime, sheet: &[u8], p: Point) {
     let n = sheet.len() as u64;
-    put_asked(b'G', n, p);
-    put_answer(door::geographic_to_plane(sheet, p));
-    put_asked(b'P', n, p);
-    put_answer(door::plane_to_geographic(sheet, p));
-    put_asked(b'S', n, p);
-    put_answer(door::convergence_and_scale(sheet, p));
+    put_asked(rt, b'G', n, p);
+    put_answer(rt, door::geographic_to_plane(sheet, p));
+    put_asked(rt, b'P', n, p);
+    put_answer(rt, door::plane_to_geographic(sheet, p));
+    put_asked(rt, b'S', n, p);
+    put_answer(rt, door::convergence_and_scale(sheet, p));
 }
 
 // The pairs; then a NaN, and infinity, which no constant holds.
-fn ask_each(sheet: &[u8], pairs: &[[f64; 2]]) {
+fn ask_each(rt: &HostRuntime, sheet: &[u8], pairs: &[[f64; 2]]) {
     let mut k = 0;
     while k < pairs.len() {
         let pair = pairs[k];
         ask(
+            rt,
             sheet,
             Point {
                 first: pair[0],
@@ -217,6 +220,7 @@ fn ask_each(sheet: &[u8], pairs: &[[f64; 2]]) {
         k += 1;
     }
     ask(
+        rt,
         sheet,
         Point {
             first: 0.0 / 0.0,
@@ -224,6 +228,7 @@ fn ask_each(sheet: &[u8], pairs: &[[f64; 2]]) {
         },
     );
     ask(
+        rt,
         sheet,
         Point {
             first: 55193582.0,
@@ -233,15 +238,15 @@ fn ask_each(sheet: &[u8], pairs: &[[f64; 2]]) {
 }
 
 // Counts in feet.
-fn feet(counts: &[i32]) {
+fn feet(rt: &HostRuntime, counts: &[i32]) {
     let mut k = 0;
     while k < counts.len() {
         let count = counts[k];
-        put(b'F');
-        put_signed(count);
-        put(b':');
-        put_float(door::feet(count));
-        put(b'\n');
+        put(rt, b'F');
+        put_signed(rt, count);
+        put(rt, b':');
+        put_float(rt, door::feet(count));
+        put(rt, b'\n');
         k += 1;
     }
 }
@@ -249,29 +254,26 @@ fn feet(counts: &[i32]) {
 // ---- the program
 
 // All of it on the first n bytes.
-fn run(space: &[u8], n: usize)
+fn run(rt: &HostRuntime, space: &[u8], n: usize)
     requires { n ≤ length space.now }
 {
     let sheet = &space[0..n];
     let none = &space[0..0];
     let mut memory = marks();
-    read_each(sheet);
-    read_each(none);
-    batches(sheet, &marks(), &mut memory);
-    ask_each(sheet, &PAIRS);
-    ask_each(none, &PAIRS);
-    feet(&FEET);
+    read_each(rt, sheet);
+    read_each(rt, none);
+    batches(rt, sheet, &marks(), &mut memory);
+    ask_each(rt, sheet, &PAIRS);
+    ask_each(rt, none, &PAIRS);
+    feet(rt, &FEET);
 }
 
-fn main() {
-    let mut path = io::buffer();
-    let k = os::arg(1, &mut path);
-    let fd = os::open_read(&path[..k]);
-    if fd < 0 {
-        return;
+fn main(rt: HostRuntime) {
+    let mut path = [0u8; 4096];
+    let k = rt.arg(1, &mut path).unwrap_or(0);
+    let mut space = files::sheet_room();
+    if let Ok(mut file) = files::open(&rt, &path[..k]) {
+        let n = files::read_full(&mut file, &mut space);
+        run(&rt, &space, n);
     }
-    let mut space = io::large_buffer();
-    let n = io::read_full(fd, &mut space);
-    libc::close(fd);
-    run(&space, n);
 }

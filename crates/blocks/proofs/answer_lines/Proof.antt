@@ -6,7 +6,7 @@ use Prim.Native.Nat.{◌+◌, ◌-◌, ◌≤◌}
 use native.Mathlib.Omega.{arith}
 use lib.ListN.{length}
 use lib.Seq.{slice}
-use Rattle.bytes.specs.Bytes.{index_of}
+use Rattle.stream.specs.Search.{index_of}
 use Rattle.lines.specs.Lines.{line_room}
 use Rattle.blocks.specs.Blocks.{answering}
 use Rattle.blocks.proofs.Working.{Working, start, one_more, finished}
