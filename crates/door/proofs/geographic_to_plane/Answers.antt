@@ -1,5 +1,5 @@
 -- `door::geographic_to_plane` meets its contract: 15 before the sheet, and after it what the conversion answers; then what the match and each call ask. Assumes nothing.
-use mathlib.Core.Path.{◌≡◌, sym}
+use mathlib.Core.Path.{◌≡◌, sym, ◌∙◌}
 use mir.Syntax.{w32}
 use mir.Val.{to_z, of_z}
 use borrow.Author.Rules.{rules}
