@@ -27,5 +27,8 @@ pub returns : goal.returns
 returns c =
     let l = c.loop-end in
     let d = finished l.invariant.0 c.requires.3 _ l.invariant.1 c.loop-end-test.false l.invariant.2 in
-    let both = ((l.invariant.0.inside, omega (arith, l.invariant.0.far, l.invariant.0.inside, c.requires.4), d.rest), (d.end_state, d.all)) in
-    record { place = both.0; counted = both.1; text = both.2 }
+    record {
+      place = (l.invariant.0.inside, omega (arith, l.invariant.0.far, l.invariant.0.inside, c.requires.4), d.rest);
+      counted = d.end_state;
+      text = d.all;
+    }

@@ -10,4 +10,4 @@ returns c =
     let s = a.old.now in
     let t = a.new.now in
     let l = a.line.now in
-    (line.1.1.1.0, counted-one s t a.a l _ _ _ _ _ _ _ _ line.0 line.1.0 line.1.1.0 n.ensures c.up_where.ensures c.up_where-2.ensures c.up_where-3.ensures c.stray_after.ensures, written_one s t a.a l _ _ _ _ _ n.ensures line.1.1.1.1)
+    (line.text.0, counted-one s t a.a l _ _ _ _ _ _ _ _ line.point line.changed line.reached n.ensures c.up_where.ensures c.up_where-2.ensures c.up_where-3.ensures c.stray_after.ensures, written_one s t a.a l _ _ _ _ _ n.ensures line.text.1)
