@@ -8,5 +8,9 @@ returns c =
     let v = c.values_of-v.ensures in
     let w = c.values_of-w.ensures in
     let text = text_is _ _ _ _ _ v w _ c.same_values-changed.ensures c.args.n in
-    let both = (rw (← l) c.is_form.ensures, (rw (← l) (changes_is _ _ _ _ _ v w _ c.same_values-changed.ensures), (rw (← l) c.is_reached.ensures, (c.put_where-next.ensures.0, rw (← l) (rw text at c.put_where-next.ensures.1))))) in
-    record { point = both.0; changed = both.1; reached = both.2; text = both.3 }
+    record {
+      point = rw (← l) c.is_form.ensures;
+      changed = rw (← l) (changes_is _ _ _ _ _ v w _ c.same_values-changed.ensures);
+      reached = rw (← l) c.is_reached.ensures;
+      text = (c.put_where-next.ensures.0, rw (← l) (rw text at c.put_where-next.ensures.1));
+    }

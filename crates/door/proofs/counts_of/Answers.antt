@@ -1,5 +1,5 @@
 -- `door::counts_of` meets its contract: a pair by what each float is; then what each match asks. Assumes nothing.
-use mathlib.Core.Path.{◌≡◌, sym, ◌∙◌}
+use mathlib.Core.Path.{◌≡◌, sym}
 use mir.Syntax.{w32}
 use mir.Val.{to_z, of_z}
 use borrow.Author.Rules.{rules}
@@ -7,13 +7,13 @@ use Rattle.door.proofs.Ways.{first_none, second_none, both-counts}
 use Rattle.door.proofs.counts_of.Goals as goal
 
 pub returns-in_default : goal.returns-in_default
-returns-in_default c = first_none _ _ (sym c.whole_of.ensures ∙ c.enum_told.given.1)
+returns-in_default c = first_none _ _ (sym c.in_default.ensures)
 
 pub returns-in_default-whole_of : goal.returns-in_default-whole_of
-returns-in_default-whole_of c = second_none _ _ (sym c.whole_of-2.ensures ∙ c.enum-told2.given.1)
+returns-in_default-whole_of c = second_none _ _ (sym c.in_default-whole_of.ensures)
 
 pub returns : goal.returns
 returns c =
-    let one : to_z w32 (of_z w32 c.a.given.0.0) ≡ c.a.given.0.0 = search rules in
-    let two : to_z w32 (of_z w32 c.b.given.0.0) ≡ c.b.given.0.0 = search rules in
-    rw (one, two) (both-counts _ _ _ _ (sym c.whole_of.ensures ∙ c.a.given.1) (sym c.whole_of-2.ensures ∙ c.b.given.1))
+    let one : to_z w32 (of_z w32 c.in-Count.a) ≡ c.in-Count.a = search rules in
+    let two : to_z w32 (of_z w32 c.in-Count-whole_of.b) ≡ c.in-Count-whole_of.b = search rules in
+    rw (one, two) (both-counts _ _ _ _ (sym c.in-Count.ensures) (sym c.in-Count-whole_of.ensures))

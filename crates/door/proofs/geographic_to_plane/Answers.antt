@@ -10,16 +10,16 @@ use Rattle.door.proofs.Ways.{before, after}
 use Rattle.door.proofs.geographic_to_plane.Goals as goal
 
 pub returns-in_default : goal.returns-in_default
-returns-in_default c = before _ _ (sym c.counts_of.ensures ∙ c.enum_told.given.1)
+returns-in_default c = before _ _ (sym c.in_default.ensures)
 
 pub returns : goal.returns
 returns c =
     let r = c.geographic_to_plane-r.result in
-    let a = c.latitude.given.0.0 in
-    let b = c.latitude.given.0.1.0 in
+    let a = c.in-Of.latitude in
+    let b = c.in-Of.longitude in
     let a_is : to_z w32 (of_z w32 a) ≡ a = search rules in
     let b-is : to_z w32 (of_z w32 b) ≡ b = search rules in
     let one : to_z w32 (of_z w32 r.x) ≡ r.x = search rules in
     let two : to_z w32 (of_z w32 r.y) ≡ r.y = search rules in
     let told = c.answer_of.ensures ∙ both-same (λ a b. answer_of r.number a b r.half) one two in
-    after (geographic_to_plane _) plane_answer _ _ (sym c.counts_of.ensures ∙ c.latitude.given.1) a_is b-is c.geographic_to_plane-r.ensures told
+    after (geographic_to_plane _) plane_answer _ _ (sym c.in-Of.ensures) a_is b-is c.geographic_to_plane-r.ensures told
