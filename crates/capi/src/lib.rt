@@ -1,5 +1,5 @@
-// The library for C: twelve public operations, each under a plain name, its answer in a struct that is laid out as C lays it out. include/bannerscale.h declares it. A slice is a
-// pointer and a length there; a null pointer with length 0 is an empty one.
+// The library for C: twelve public operations, each under a plain name, its answer in a struct that is laid out as C lays it out. `capi_c` exports them, and include/bannerscale.h declares them. A slice
+// is a pointer and a length there; a null pointer with length 0 is an empty one.
 #![tactic(auto)]
 
 ghost use Rattle.std.specs.Prelude.{◌≡◌};
@@ -87,8 +87,7 @@ pub struct DoorAnswer {
 
 // ---- the check and the conversions
 
-#[unsafe(no_mangle)]
-pub extern "C" fn bannerscale_check(sheet: &[u8]) -> CheckAnswer
+pub fn bannerscale_check(sheet: &[u8]) -> CheckAnswer
     ensures { result ≡ check_answer (check_of sheet.now) }
 {
     let v = sheet_check::check(sheet);
@@ -99,12 +98,7 @@ pub extern "C" fn bannerscale_check(sheet: &[u8]) -> CheckAnswer
     }
 }
 
-#[unsafe(no_mangle)]
-pub extern "C" fn bannerscale_geographic_to_plane(
-    sheet: &[u8],
-    latitude: i32,
-    longitude: i32,
-) -> PlaneAnswer
+pub fn bannerscale_geographic_to_plane(sheet: &[u8], latitude: i32, longitude: i32) -> PlaneAnswer
     ensures { result ≡ plane_answer (geographic_to_plane sheet.now latitude longitude) }
 {
     let r = convert::geographic_to_plane(sheet, latitude, longitude);
@@ -116,8 +110,7 @@ pub extern "C" fn bannerscale_geographic_to_plane(
     }
 }
 
-#[unsafe(no_mangle)]
-pub extern "C" fn bannerscale_plane_to_geographic(sheet: &[u8], x: i32, y: i32) -> GeographicAnswer
+pub fn bannerscale_plane_to_geographic(sheet: &[u8], x: i32, y: i32) -> GeographicAnswer
     ensures { result ≡ geographic_answer (plane_to_geographic sheet.now x y) }
 {
     let r = convert::plane_to_geographic(sheet, x, y);
@@ -129,8 +122,7 @@ pub extern "C" fn bannerscale_plane_to_geographic(sheet: &[u8], x: i32, y: i32) 
     }
 }
 
-#[unsafe(no_mangle)]
-pub extern "C" fn bannerscale_convergence_and_scale(sheet: &[u8], x: i32, y: i32) -> GridAnswer
+pub fn bannerscale_convergence_and_scale(sheet: &[u8], x: i32, y: i32) -> GridAnswer
     ensures { result ≡ grid_answer (convergence_and_scale sheet.now x y) }
 {
     let r = convert::convergence_and_scale(sheet, x, y);
@@ -144,23 +136,14 @@ pub extern "C" fn bannerscale_convergence_and_scale(sheet: &[u8], x: i32, y: i32
 
 // ---- corrections
 
-#[unsafe(no_mangle)]
-pub extern "C" fn bannerscale_correct(
-    sheet: &mut [u8],
-    minute: i32,
-    y0: i32,
-    h: i32,
-    v: i32,
-    a: i32,
-) -> u32
+pub fn bannerscale_correct(sheet: &mut [u8], minute: i32, y0: i32, h: i32, v: i32, a: i32) -> u32
     ensures answer { result ≡ correction_of sheet.old minute (figures y0 h v a) }
     ensures memory { sheet.new ≡ corrected_of sheet.old minute (figures y0 h v a) }
 {
     correct::correct(sheet, minute, y0, h, v, a)
 }
 
-#[unsafe(no_mangle)]
-pub extern "C" fn bannerscale_geographic_touched(
+pub fn bannerscale_geographic_touched(
     sheet: &[u8],
     minute: i32,
     latitude: i32,
@@ -175,13 +158,7 @@ pub extern "C" fn bannerscale_geographic_touched(
     }
 }
 
-#[unsafe(no_mangle)]
-pub extern "C" fn bannerscale_plane_touched(
-    sheet: &[u8],
-    minute: i32,
-    x: i32,
-    y: i32,
-) -> TouchAnswer
+pub fn bannerscale_plane_touched(sheet: &[u8], minute: i32, x: i32, y: i32) -> TouchAnswer
     ensures { result ≡ touch_answer (plane_touched sheet.now minute x y) }
 {
     let t = touched::plane_touched(sheet, minute, x, y);
@@ -193,12 +170,7 @@ pub extern "C" fn bannerscale_plane_touched(
 
 // ---- many points
 
-#[unsafe(no_mangle)]
-pub extern "C" fn bannerscale_batch(
-    sheet: &[u8],
-    points: &[i32],
-    answers: &mut [i32],
-) -> BatchAnswer
+pub fn bannerscale_batch(sheet: &[u8], points: &[i32], answers: &mut [i32]) -> BatchAnswer
     ensures answer { result ≡ batch_answer (batch_of sheet.now points.now answers.old) }
     ensures memory { answers.new ≡ answers_of sheet.now points.now answers.old }
 {
@@ -241,35 +213,28 @@ fn told(answer: Answer) -> DoorAnswer
     }
 }
 
-#[unsafe(no_mangle)]
-pub extern "C" fn bannerscale_door_geographic_to_plane(sheet: &[u8], point: DoorPoint) -> DoorAnswer
+pub fn bannerscale_door_geographic_to_plane(sheet: &[u8], point: DoorPoint) -> DoorAnswer
     ensures { result ≡ door_answer (to_plane sheet.now (door_point point)) }
 {
     let p = point_of(point);
     told(door::geographic_to_plane(sheet, p))
 }
 
-#[unsafe(no_mangle)]
-pub extern "C" fn bannerscale_door_plane_to_geographic(sheet: &[u8], point: DoorPoint) -> DoorAnswer
+pub fn bannerscale_door_plane_to_geographic(sheet: &[u8], point: DoorPoint) -> DoorAnswer
     ensures { result ≡ door_answer (to_geographic sheet.now (door_point point)) }
 {
     let p = point_of(point);
     told(door::plane_to_geographic(sheet, p))
 }
 
-#[unsafe(no_mangle)]
-pub extern "C" fn bannerscale_door_convergence_and_scale(
-    sheet: &[u8],
-    point: DoorPoint,
-) -> DoorAnswer
+pub fn bannerscale_door_convergence_and_scale(sheet: &[u8], point: DoorPoint) -> DoorAnswer
     ensures { result ≡ door_answer (to_grid sheet.now (door_point point)) }
 {
     let p = point_of(point);
     told(door::convergence_and_scale(sheet, p))
 }
 
-#[unsafe(no_mangle)]
-pub extern "C" fn bannerscale_feet(count: i32) -> f64
+pub fn bannerscale_feet(count: i32) -> f64
     ensures { result ≡ feet_of count }
 {
     door::feet(count)

@@ -24,11 +24,11 @@ pub fits : {w : Width} {z : ℤ} → nat_abs z < 2 ^ hbits w → SFits w z
 fits {w} {z} h = record { sfits = lt_of_le_of_lt (mag_size z) h }
 
 -- ---- where a number comes from
--- a parameter: `held c.fits.x BOUND`
+-- a parameter: `held c.ranges.x BOUND`
 pub held : {w : Width} {z : ℤ} {B : ℕ} → SFits w z → nat_abs z ≤ B → Holds w (of_z w z) z B
 held h k = record { is = to_z-of_z h; size = k }
 
--- a call's result: `held_result w c.f.result c.f.ok BOUND`
+-- a call's result: `held_result w c.f.result c.f.type_inv BOUND`
 pub held_result : (w : Width) (z : ℤ) {B : ℕ} → mag z < 2 ^ hbits w → nat_abs z ≤ B → Holds w (of_z w z) z B
 held_result w z h k = held (record { sfits = h }) k
 

@@ -154,7 +154,7 @@ half_low (negsuc n) (suc e) K h k j =
 pub split : (p n K : ℕ) → p * n ≡ (p * (n / K) + p * (n % K) / K) * K + p * (n % K) % K
 split p n K = omega (arith, ap (λ (x : ℕ). p * x) (div-add-mod' n K), div-add-mod' (p * (n % K)) K)
 
--- a·K + e + d·(H-as-K) = (a + d·H)·K + e
+-- a·K + e + d·(H·K) = (a + d·H)·K + e
 pub gather : (a e K H : ℕ) (d : ℤ) → pos (a * K + e) +ℤ d *ℤ pos (H * K) ≡ (pos a +ℤ d *ℤ pos H) *ℤ pos K +ℤ pos e
 gather a e K H d =
     swap_last (pos (a * K)) (pos e) (d *ℤ pos (H * K))
