@@ -160,7 +160,9 @@ pub fn is_name(rt: &HostRuntime, what: &[u8], name: &[u8]) -> bool
 }
 
 // The name as the system is asked for it, which it can be only where it is text.
-pub fn path_of(name: &[u8]) -> Result<&str> {
+pub fn path_of(name: &[u8]) -> Result<&str>
+    ensures { IfOk result (λ path. path.now ≡ name.now) }
+{
     match str::from_utf8(name) {
         Ok(path) => Ok(path),
         Err(_) => Err(Error::new(ErrorKind::InvalidInput, "its name is not in UTF-8")),

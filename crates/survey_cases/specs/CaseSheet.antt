@@ -1,4 +1,4 @@
--- The case sheet: document 003, zone 3, rows 21°30' to 21°50', its Tables II, III and IV whole, scale rows 0 to 20,000 ft, central meridian 158°, C 500,000 ft, kinds in rising
+-- The case sheet: document 003, zone 3, rows 21°30′ to 21°50′, its Tables II, III and IV whole, scale rows 0 to 20,000 ft, central meridian 158°, C 500,000 ft, kinds in rising
 -- order. It has 238 words.
 use Rattle.std.specs.Prelude.{List, [], ◌∷◌, ℕ, pos, neg_ℤ}
 use Rattle.survey_cases.specs.Bytes.{bytes_of}

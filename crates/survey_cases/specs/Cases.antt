@@ -37,14 +37,14 @@ on_grid r = pos r.number ∷ r.convergence ∷ r.scale ∷ marked r.half ∷ []
 abbrev pub told : Verdict → List ℤ → List ℤ
 told v rest = pos v.number ∷ pos v.kind ∷ pos v.row ∷ rest
 
--- Document 000, Harvey: at 38°26'17.646″ y0 341,647.98, H 79.567780, between the rows 38°26' and 38°27'.
+-- Document 000, Harvey: at 38°26′17.646″ y0 341,647.98, H 79.567780, between the rows 38°26′ and 38°27′.
 unfoldable pub harvey : Case
 harvey = record {
   worked = between (pos 33_986_295) (pos 34_593_243) 17_646 one_minute ∷ between (pos 79_573_162) (pos 79_554_863) 17_646 one_minute ∷ [];
   printed = pos 34_164_798 ∷ pos 79_567_780 ∷ [];
 }
 
--- Document 003, Kahela: at 19°37'23.477″ y0 286,828.13, H 95.595105, between the rows 19°37' and 19°38'.
+-- Document 003, Kahela: at 19°37′23.477″ y0 286,828.13, H 95.595105, between the rows 19°37′ and 19°38′.
 unfoldable pub kahela : Case
 kahela = record {
   worked = between (pos 28_445_984) (pos 29_051_245) 23_477 one_minute ∷ between (pos 95_598_962) (pos 95_589_105) 23_477 one_minute ∷ [];
@@ -83,7 +83,7 @@ naper = record {
   printed = pos 7_316 ∷ pos 7_315 ∷ [];
 }
 
--- Document 003, zone 2, cut to the rows 20°47' to 20°49' and the first two rows of each other table, with dh as ΔH of row 20°48'.
+-- Document 003, zone 2, cut to the rows 20°47′ to 20°49′ and the first two rows of each other table, with dh as ΔH of row 20°48′.
 unfoldable pub from2047 : ℤ → List ℕ
 from2047 dh =
     bytes_of (
@@ -109,14 +109,14 @@ from2047 dh =
     []
     )
 
--- Document 003, row 20°48': H 94.879133, next 94.868706, so ΔH is 173.78 of its millionths, and the whole check passes, 0 0 0. The copy reads 173.71: number 9, in kind 2's row 1.
+-- Document 003, row 20°48′: H 94.879133, next 94.868706, so ΔH is 173.78 of its millionths, and the whole check passes, 0 0 0. The copy reads 173.71: number 9, in kind 2's row 1.
 unfoldable pub row2048 : Case
 row2048 = record {
   worked = per_second 100 (pos 94_879_133 -ℤ pos 94_868_706) ∷ told (check_of (from2047 (pos 17_378))) (told (check_of (from2047 (pos 17_371))) []);
   printed = pos 17_378 ∷ pos 0 ∷ pos 0 ∷ pos 0 ∷ pos 9 ∷ pos 2 ∷ pos 1 ∷ [];
 }
 
--- At 20°48'30″ the rows give H 94.873920; the misprinted per-second column would give 94.873922.
+-- At 20°48′30″ the rows give H 94.873920; the misprinted per-second column would give 94.873922.
 unfoldable pub h2048 : Case
 h2048 = record {
   worked = between (pos 94_879_133) (pos 94_868_706) 30_000 one_minute ∷ [];
@@ -137,14 +137,14 @@ half_marked = record {
   printed = pos 0 ∷ pos 480 ∷ pos 9_999_902 ∷ pos 1 ∷ [];
 }
 
--- −0.9875 to three places is −0.988 and not −0.987. The case sheet's a stands there at 21°30'30″, between −0.988 and −0.987.
+-- −0.9875 to three places is −0.988 and not −0.987. The case sheet's a stands there at 21°30′30″, between −0.988 and −0.987.
 unfoldable pub half_a : Case
 half_a = record {
   worked = nearest (neg_ℤ (pos 9_875)) 10 ∷ between (neg_ℤ (pos 988)) (neg_ℤ (pos 987)) 30_000 one_minute ∷ [];
   printed = neg_ℤ (pos 988) ∷ neg_ℤ (pos 988) ∷ [];
 }
 
--- Case sheet, x 500,000.00, y 127,133.05: latitude 21°31'00.000″, on the central meridian, 158°. The seconds past 21°30' come to 60.000, and not by a half.
+-- Case sheet, x 500,000.00, y 127,133.05: latitude 21°31′00.000″, on the central meridian, 158°. The seconds past 21°30′ come to 60.000, and not by a half.
 unfoldable pub minute31 : Case
 minute31 = record {
   worked = on_earth (plane_to_geographic case_sheet (pos 50_000_000) (pos 12_713_305));
