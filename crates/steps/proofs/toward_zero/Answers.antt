@@ -1,8 +1,12 @@
 -- `steps::toward_zero` meets its contract. Assumes nothing.
-use mathlib.Core.Path.{sym, ap, ◌∙◌}
+use mathlib.Core.Path.{◌≡◌, sym, ap, ◌∙◌}
+use mathlib.Core.Bool.{false}
 use Prim.Native.Nat.{ℕ}
 use mir.Syntax.{w64}
-use mir.Val.{of_z}
+use mir.Val.{to_z, of_z}
+use borrow.Author.Rules.{rules}
+use lib.IntN.{pos}
+use lib.Signed.{le_z}
 use Rattle.rounding.specs.Ranges.{most_numerator}
 use Rattle.steps.specs.Wide.{toward_zero}
 use Rattle.rounding.proofs.Holds.{Holds, held, held_literal, sum_fits, sum}
@@ -29,5 +33,6 @@ overflow_add-result c = sum_fits (t c.before.before) (held_literal w64 1 tt) tt
 pub returns : goal.returns
 returns c =
     let b = c.before.before in
+    let below : le_z (pos 0) (to_z w64 (of_z w64 b.args.t)) ≡ false = search rules in
     (sum (t b) (held_literal w64 1 tt) tt).is
-    ∙ sym (toward_next b.args.t b.args.e (rw (t b).is at c.if-t-ge0.false) c.if-e-eq0.false)
+    ∙ sym (toward_next b.args.t b.args.e (rw (t b).is at below) c.if-e-eq0.false)
