@@ -2,7 +2,7 @@
 // readers say how far they reach; `read_on` and the reads under it also say that what stood before stays. Where the system refuses, standard error says why.
 #![tactic(auto)]
 
-ghost use Rattle.std.specs.Prelude.{◌≡◌, true, ◌++◌, map, ◌+◌, ◌<◌, ◌≤◌, length, take, drop, IfOk};
+ghost use Rattle.std.specs.Prelude.{◌≡◌, true, ◌++◌, map, ◌+◌, ◌<◌, ◌≤◌, length, take, drop, IfOk, IsUtf8, MatchResult};
 ghost use Rattle.files.specs.Shown.{shown_byte};
 
 use std::fs::File;
@@ -48,7 +48,7 @@ pub fn is_open(rt: &HostRuntime) -> bool {
     }
 }
 
-// Writes a text to standard error. Where the system refuses that there is nobody to tell.
+// Writes a text to standard error. Where the system refuses, nobody can be told.
 pub fn say(rt: &HostRuntime, text: &[u8]) {
     let _ = Print::write_all(&rt.stderr(), text);
 }
@@ -159,9 +159,9 @@ pub fn is_name(rt: &HostRuntime, what: &[u8], name: &[u8]) -> bool
     true
 }
 
-// The name as the system is asked for it, which it can be only where it is text.
+// The name as the system is asked for it: the same bytes, where they are text in UTF-8; an error where they are not.
 pub fn path_of(name: &[u8]) -> Result<&str>
-    ensures { IfOk result (λ path. path.now ≡ name.now) }
+    ensures { MatchResult result (λ path. path.now ≡ name.now) (λ e. ¬ (IsUtf8 name.now)) }
 {
     match str::from_utf8(name) {
         Ok(path) => Ok(path),

@@ -156,7 +156,7 @@ fn open_new(rt: &HostRuntime, temporary: &[u8]) -> Result<File> {
         .open(rt, files::path_of(temporary)?)
 }
 
-// Opens a new file under the temporary name, with its last six letters filled in: others, where a file has the name already. A name that ends in fewer letters to fill in is refused.
+// Opens a new file under the temporary name with its last six letters filled in, and with other letters where a file has that name already. A name that does not end in six letters X is refused.
 fn create(rt: &HostRuntime, temporary: &mut [u8]) -> Result<File> {
     if !temporary.ends_with(b"XXXXXX") {
         return Err(Error::from_raw_os_error(INVALID_ARGUMENT));

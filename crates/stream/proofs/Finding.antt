@@ -15,12 +15,13 @@ module _ (byte : ℕ) where
   is_there b text t = rw t
 
   module _ (text : List ℕ) (to : ℕ) (long : to ≤ length text) where
+    pub one_further : (i : ℕ) → i < to → eqb (get_or text i 0) byte ≡ false → index_of byte (slice i to text) ≡ suc (index_of byte (slice (suc i) to text))
+    one_further i h e = ap (index_of byte) (slice-cons i to text 0 h long) ∙ is_there (get_or text i 0) (slice (suc i) to text) e
+
     pub byte_past : (i : ℕ) → i < to → get_or text i 0 ≢ byte → (i + 1) + index_of byte (slice (i + 1) to text) ≡ i + index_of byte (slice i to text)
     byte_past i h e =
         let at : i + 1 ≡ suc i = omega arith in
-        let one : index_of byte (slice i to text) ≡ suc (index_of byte (slice (suc i) to text))
-        = ap (index_of byte) (slice-cons i to text 0 h long) ∙ is_there (get_or text i 0) (slice (suc i) to text) (ne_eqb (get_or text i 0) byte e) in
-        rw at (omega (arith, one))
+        rw at (omega (arith, one_further i h (ne_eqb (get_or text i 0) byte e)))
 
     pub byte_here : (i : ℕ) → i < to → get_or text i 0 ≡ byte → i ≡ i + index_of byte (slice i to text)
     byte_here i h e = omega (arith, ap (index_of byte) (slice-cons i to text 0 h long) ∙ is_here (get_or text i 0) (slice (suc i) to text) (eq-eqb (get_or text i 0) byte e))

@@ -1,5 +1,5 @@
 -- Bytes that are no line feed put the end of a line further on. Assumes nothing.
-use mathlib.Core.Path.{◌≡◌, refl, sym, ap, subst, ◌∙◌}
+use mathlib.Core.Path.{◌≡◌, refl, sym, subst, ◌∙◌}
 use mathlib.Core.Bool.{Bool, true, false, ◌&&◌}
 use mathlib.Core.List.{List}
 use Prim.Native.Nat.{ℕ, zero, suc, ◌+◌, ◌≤◌, ◌<◌}
@@ -7,10 +7,10 @@ use native.Mathlib.Omega.{arith}
 use borrow.Author.Tests.{not-true}
 use lib.Dec.{T, eqb}
 use lib.ListN.{length, get_or}
-use lib.Seq.{slice, slice-cons}
+use lib.Seq.{slice}
 use Rattle.stream.specs.Search.{index_of}
 use Rattle.stream.specs.Stream.{goes_on, all_go_on}
-use Rattle.stream.proofs.Splitting.{index_there}
+use Rattle.stream.proofs.Finding.{one_further}
 
 -- both of two tests hold
 both : (s t : Bool) → s && t ≡ true → (s ≡ true) × (t ≡ true)
@@ -22,9 +22,7 @@ module _ (text : List ℕ) (to : ℕ) (long : to ≤ length text) where
   past : (i : ℕ) → i < to → goes_on text i ≡ true → suc i + index_of 10 (slice (suc i) to text) ≡ i + index_of 10 (slice i to text)
   unfolding goes_on
   past i h e =
-      let one : index_of 10 (slice i to text) ≡ suc (index_of 10 (slice (suc i) to text))
-      = ap (index_of 10) (slice-cons i to text 0 h long) ∙ index_there (get_or text i 0) (slice (suc i) to text) (not-true (eqb (get_or text i 0) 10) e) in
-      omega (arith, one)
+      omega (arith, one_further 10 text to long i h (not-true (eqb (get_or text i 0) 10) e))
 
   -- past n of them
   pub past_all : (i n : ℕ) → i + n ≤ to → all_go_on text i n ≡ true → (i + n) + index_of 10 (slice (i + n) to text) ≡ i + index_of 10 (slice i to text)

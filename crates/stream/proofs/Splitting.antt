@@ -6,6 +6,7 @@ use Prim.Native.Nat.{ℕ, zero, suc, ◌<◌}
 use native.Mathlib.Omega.{arith}
 use lib.Dec.{eqb}
 use lib.ListN.{length, take, drop}
+use Rattle.stream.proofs.Finding.{is_here, is_there}
 use Rattle.stream.specs.Search.{index_of}
 use Rattle.stream.specs.Stream.{last_line, lines_from, lines_of, ended_from, ended_lines, unended_from, unended}
 
@@ -18,12 +19,10 @@ NoEnd text = index_of 10 text ≡ length text
 
 -- ---- where a line feed stands first, and where none does
 index_here : (b : ℕ) (text : List ℕ) → eqb b 10 ≡ true → index_of 10 (b ∷ text) ≡ 0
-unfolding index_of
-index_here b text t = rw t
+index_here b text t = is_here 10 b text t
 
 pub index_there : (b : ℕ) (text : List ℕ) → eqb b 10 ≡ false → index_of 10 (b ∷ text) ≡ suc (index_of 10 text)
-unfolding index_of
-index_there b text t = rw t
+index_there b text t = is_there 10 b text t
 
 pub no_end_none : NoEnd []
 unfolding index_of
