@@ -176,12 +176,22 @@ pub fn contents(s: &[u8]) -> Verdict
     contents_by(s, entries::form_of(s))
 }
 
-// The body of the kind, as the part of the sheet that holds its rows. Everyone who reads or judges a body gets it here.
-pub fn body<'a>(s: &'a [u8], place: Place, kind: usize) -> &'a [u8]
-    requires { Placed s.now kind place }
-    ensures { (result.now ≡ body_of s.now kind) × (length result.now ≡ 4 * (place.rows * width_of kind)) }
-{
-    let start = 4 * place.start;
-    let end = start + 4 * (place.rows * entries::width_of(kind));
-    &s[start..end]
+// The table of a kind in a sheet whose contents have no fault: the sheet, the kind, and where its body lies.
+#[derive(Clone, Copy)]
+pub struct Table<'a> {
+    pub sheet: &'a [u8],
+    pub kind: usize,
+    pub place: Place,
+    pub ghost placed: { Placed sheet.now kind place },
+}
+
+impl<'a> Table<'a> {
+    // The table's body, as the part of the sheet that holds its rows. Everyone who reads or judges a body gets it here.
+    pub fn body(self) -> &'a [u8]
+        ensures { (result.now ≡ body_of self.entry.sheet.now self.entry.kind) × (length result.now ≡ 4 * (self.entry.place.rows * width_of self.entry.kind)) }
+    {
+        let start = 4 * self.place.start;
+        let end = start + 4 * (self.place.rows * entries::width_of(self.kind));
+        &self.sheet[start..end]
+    }
 }

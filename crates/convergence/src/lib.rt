@@ -10,7 +10,7 @@ ghost use Rattle.extent.specs.Extent.{scale_known, northing_known};
 ghost use Rattle.convergence.specs.Grid.{grid_of, taken_at, worked_of};
 
 use entries::Places;
-use rounding::{Rounded, RoundedSize};
+use rounding::Rounded;
 
 // The grid at a point: the convergence Δα in 0.1″, the scale k in 10⁻⁷, and whether some rounding on the way to them met a half. A refusal has its number, zeros and no half.
 #[derive(Clone, Copy)]
@@ -24,8 +24,8 @@ pub struct Grid {
 // The figures that the grid at a point is worked from, as they were read: M at y, k at the size of x'.
 #[derive(Clone, Copy)]
 pub struct Taken {
-    pub m: RoundedSize,
-    pub k: Rounded,
+    pub m: Rounded<u64>,
+    pub k: Rounded<i64>,
 }
 
 // Reading: the figures of a point within the tables, at the steps that the two tables have.

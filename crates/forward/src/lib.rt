@@ -13,7 +13,7 @@ ghost use Rattle.forward.specs.Forward.{plane_at, forward_of, longitude_at, take
 
 use entries::Places;
 use reading::At;
-use rounding::{Rounded, RoundedSize};
+use rounding::Rounded;
 use tables::Origin;
 
 // A point on the plane: x and y in 0.01 ft, and whether some rounding on the way to them met a half. A refusal has its number, zeros and no half.
@@ -28,19 +28,19 @@ pub struct Plane {
 // The figures that a point is worked from, as they were read: y0, H, V and a at its latitude, b and c at the size of L.
 #[derive(Clone, Copy)]
 pub struct Taken {
-    pub y0: Rounded,
-    pub h: RoundedSize,
-    pub v: RoundedSize,
-    pub a: Rounded,
-    pub b: Rounded,
-    pub c: Rounded,
+    pub y0: Rounded<i64>,
+    pub h: Rounded<u64>,
+    pub v: Rounded<u64>,
+    pub a: Rounded<i64>,
+    pub b: Rounded<i64>,
+    pub c: Rounded<i64>,
 }
 
 // b and c at one size of L.
 #[derive(Clone, Copy)]
 pub struct Longitude {
-    pub b: Rounded,
-    pub c: Rounded,
+    pub b: Rounded<i64>,
+    pub c: Rounded<i64>,
 }
 
 // Reading: b and c, at a size of L and at the step that the table has.
@@ -87,7 +87,7 @@ fn taken_at(s: &[u8], p: Places, north: At, size: u64) -> Taken
 }
 
 // Working: x, in 0.01 ft.
-fn x_of(f: Taken, easting: i64, l: i64) -> Rounded
+fn x_of(f: Taken, easting: i64, l: i64) -> Rounded<i64>
     requires { Workable f easting l }
     ensures { (result.value ≡ worked_x f easting l) × (nat_abs result.value ≤ 161_204_000) × (result.half ≡ worked_x_half f (nat_abs l)) }
 {
@@ -99,7 +99,7 @@ fn x_of(f: Taken, easting: i64, l: i64) -> Rounded
 }
 
 // Working: y, in 0.01 ft, at the size of L.
-fn y_of(f: Taken, size: u64) -> Rounded
+fn y_of(f: Taken, size: u64) -> Rounded<i64>
     requires { (f.v.value ≤ most_v) × (nat_abs f.c.value ≤ most_c) × (nat_abs f.y0.value ≤ 999_999_999) × (size ≤ most_s) }
     ensures { (result.value ≡ worked_y f size) × (nat_abs result.value ≤ 1_000_504_199) × (result.half ≡ worked_y_half f size) }
 {

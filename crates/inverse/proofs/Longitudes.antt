@@ -46,7 +46,7 @@ module _ (s : List ℕ) (x t : ℕ) {h m : ℕ} (r : h ≡ h_at s t) (g : m ≡ 
 -- f are the figures there
 module _ (s : List ℕ) (x t : ℕ) (f : Taken) {m : ℕ} (r : f ≡ taken_at s t) (g : m ≡ x) where
   -- b is read at approximate L, n
-  module _ {n : ℕ} (e : n ≡ approximate_of s x t) (b : Rounded) (k : b.value ≡ b_at s n) where
+  module _ {n : ℕ} (e : n ≡ approximate_of s x t) (b : Rounded ℤ) (k : b.value ≡ b_at s n) where
     pub size_halves : size_by f b.value m ≡ size_of s x t
     unfolding size_by taken_at size_of
     size_halves = rw (r, g, k, e)

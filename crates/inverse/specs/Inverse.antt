@@ -127,5 +127,5 @@ unfoldable pub size_by : Taken → ℤ → ℕ → ℤ
 size_by f b x = size_of_l x f.a.value b f.h.value
 
 -- `met`: approximate L was rounded from a half.
-unfoldable pub size_by_half : Taken → Rounded → ℕ → Bool → Bool
+unfoldable pub size_by_half : Taken → Rounded ℤ → ℕ → Bool → Bool
 size_by_half f b x met = f.h.half || f.a.half || met || b.half || size_of_l_half x f.a.value b.value f.h.value

@@ -15,7 +15,7 @@ ghost use Rattle.inverse.specs.Inverse.{reduced_northing, reduced_half, row_of, 
 
 use entries::Places;
 use reading::At;
-use rounding::{Rounded, RoundedSize};
+use rounding::Rounded;
 use tables::Origin;
 
 // A point on the earth: latitude and west longitude in 0.001″, and whether some rounding on the way to them met a half. A refusal has its number, zeros and no half.
@@ -30,12 +30,12 @@ pub struct Geographic {
 // What the reduced northing is worked from, as it was read: P at y, d at the size of x'.
 #[derive(Clone, Copy)]
 pub struct ForReduction {
-    pub p: RoundedSize,
-    pub d: Rounded,
+    pub p: Rounded<u64>,
+    pub d: Rounded<i64>,
 }
 
 // Reading: P at y, at the step that the table has.
-fn p_by(s: &[u8], p: Places, step: u64, y: u64) -> RoundedSize
+fn p_by(s: &[u8], p: Places, step: u64, y: u64) -> Rounded<u64>
     requires { KnownToPass s.now p × (step ≡ step_of s.now northing) × Within s.now northing y }
     ensures { (result.value ≡ p_at s.now y) × (result.value ≤ most_p) × (result.half ≡ p_half s.now y) }
 {
@@ -44,7 +44,7 @@ fn p_by(s: &[u8], p: Places, step: u64, y: u64) -> RoundedSize
 }
 
 // Reading: d at a size of x', at the step that the table has.
-fn d_by(s: &[u8], p: Places, step: u64, size: u64) -> Rounded
+fn d_by(s: &[u8], p: Places, step: u64, size: u64) -> Rounded<i64>
     requires { KnownToPass s.now p × (step ≡ step_of s.now easting) × Within s.now easting size }
     ensures { (result.value ≡ d_at s.now size) × (nat_abs result.value ≤ most_d) × (result.half ≡ d_half s.now size) }
 {
@@ -74,7 +74,7 @@ pub fn for_reduction(s: &[u8], p: Places, x: u64, y: i32) -> ForReduction
 }
 
 // Working: the reduced northing, in 0.01 ft.
-pub fn reduced_of(f: ForReduction, x: u64, y: i32) -> Rounded
+pub fn reduced_of(f: ForReduction, x: u64, y: i32) -> Rounded<i64>
     requires { (f.p.value ≤ most_p) × (x ≤ most_x) × (nat_abs f.d.value ≤ most_d) }
     ensures { (result.value ≡ reduced_by f x y) × (nat_abs result.value < 2 ^ 62) × (result.half ≡ reduced_by_half f x) }
 {
@@ -86,7 +86,7 @@ pub fn reduced_of(f: ForReduction, x: u64, y: i32) -> Rounded
 }
 
 // The reduced northing, in 0.01 ft, at the size x of x' and y.
-pub fn reduced_northing(s: &[u8], p: Places, x: u64, y: i32) -> Rounded
+pub fn reduced_northing(s: &[u8], p: Places, x: u64, y: i32) -> Rounded<i64>
     requires { KnownToPass s.now p × Within s.now easting x × (northing_known s.now y ≡ true) }
     ensures { (result.value ≡ reduced_northing s.now x y) × (nat_abs result.value < 2 ^ 62) × (result.half ≡ reduced_half s.now x y) }
 {
@@ -102,7 +102,7 @@ fn above(low: i64, high: i64) -> u64
 }
 
 // Working: the seconds of the reduced northing past a row, in 0.001″, from the row's y0 and the next row's.
-pub fn seconds_between(y0: i64, next: i64, reduced: i64) -> RoundedSize
+pub fn seconds_between(y0: i64, next: i64, reduced: i64) -> Rounded<u64>
     requires { (nat_abs y0 ≤ most_gap) × (nat_abs next ≤ most_gap) × (nat_abs reduced ≤ most_gap) × (le_z y0 reduced ≡ true) × (le_z y0 next ≡ true) × (0 < nat_abs (next -ℤ y0)) × (nat_abs (reduced -ℤ y0) ≤ nat_abs (next -ℤ y0)) × (nat_abs (next -ℤ y0) ≤ most_gap) }
     ensures { (result.value ≡ seconds_by y0 next reduced) × (result.half ≡ seconds_by_half y0 next reduced) }
 {
@@ -110,7 +110,7 @@ pub fn seconds_between(y0: i64, next: i64, reduced: i64) -> RoundedSize
 }
 
 // The seconds of the reduced northing past its row. Where that row is the last, they are counted from the row before: the whole minute, and no half.
-fn seconds_past(s: &[u8], p: Places, reduced: i64, row: usize) -> RoundedSize
+fn seconds_past(s: &[u8], p: Places, reduced: i64, row: usize) -> Rounded<u64>
     requires { KnownToPass s.now p × (reduced_known s.now reduced ≡ true) × (row ≡ min (row_of s.now reduced) (rows_of s.now latitude - 2)) }
     ensures { (row * one_minute + result.value ≡ distance_of s.now reduced) × (result.value ≤ one_minute) × (result.half ≡ distance_half s.now reduced) }
 {
@@ -121,8 +121,8 @@ fn seconds_past(s: &[u8], p: Places, reduced: i64, row: usize) -> RoundedSize
 // What L is worked from, beside b, as it was read: H and a at the latitude's position.
 #[derive(Clone, Copy)]
 pub struct Taken {
-    pub h: RoundedSize,
-    pub a: Rounded,
+    pub h: Rounded<u64>,
+    pub a: Rounded<i64>,
 }
 
 // Reading: H and a.
@@ -137,7 +137,7 @@ fn taken_at(s: &[u8], p: Places, at: At) -> Taken
 }
 
 // Reading: b at a size of L, at the step that the table has.
-fn b_by(s: &[u8], p: Places, step: u64, size: u64) -> Rounded
+fn b_by(s: &[u8], p: Places, step: u64, size: u64) -> Rounded<i64>
     requires { KnownToPass s.now p × (step ≡ step_of s.now longitude) × Within s.now longitude size }
     ensures { (result.value ≡ b_at s.now size) × (nat_abs result.value ≤ most_b) × (result.half ≡ b_half s.now size) }
 {
@@ -146,7 +146,7 @@ fn b_by(s: &[u8], p: Places, step: u64, size: u64) -> Rounded
 }
 
 // The same at the table's own step.
-fn b_at(s: &[u8], p: Places, size: u64) -> Rounded
+fn b_at(s: &[u8], p: Places, size: u64) -> Rounded<i64>
     requires { KnownToPass s.now p × Within s.now longitude size }
     ensures { (result.value ≡ b_at s.now size) × (nat_abs result.value ≤ most_b) × (result.half ≡ b_half s.now size) }
 {
@@ -158,19 +158,19 @@ fn b_at(s: &[u8], p: Places, size: u64) -> Rounded
 }
 
 // Working: approximate L, in 0.001″, at the size x of x'.
-pub fn approximate_of(h: RoundedSize, x: u64) -> RoundedSize
+pub fn approximate_of(h: Rounded<u64>, x: u64) -> Rounded<u64>
     requires { (x ≤ most_x) × (30_000_000 ≤ h.value) × (h.value ≤ most_h) }
     ensures { (result.value ≡ approximate_by h.value x) × (result.value ≤ 30_000_000) × (result.half ≡ approximate_l_half x h.value) }
 {
     let l = steps::approximate_l(x, h.value);
-    RoundedSize {
+    Rounded {
         value: l.value * 1_000,
         half: l.half,
     }
 }
 
 // Working: the size of L, in 0.001″, with b read at approximate L. `met`: approximate L was rounded from a half.
-pub fn size_of(f: Taken, b: Rounded, x: u64, met: bool) -> Rounded
+pub fn size_of(f: Taken, b: Rounded<i64>, x: u64, met: bool) -> Rounded<i64>
     requires { (x ≤ most_x) × (nat_abs f.a.value ≤ most_a) × (nat_abs b.value ≤ most_b) × (30_000_000 ≤ f.h.value) × (f.h.value ≤ most_h) × T (non_neg (pos (x * 10_000) -ℤ f.a.value *ℤ b.value)) }
     ensures { (result.value ≡ size_by f b.value x) × (result.half ≡ size_by_half f b x met) }
 {
@@ -183,7 +183,7 @@ pub fn size_of(f: Taken, b: Rounded, x: u64, met: bool) -> Rounded
 
 // The point on the earth, of x', the latitude's position and the size of L, which is within its table. Its numbers are measured from the sheet's origin, and no table
 // is read. `met`, here and below: some rounding before met a half.
-fn geographic_at(s: &[u8], o: Origin, xp: i64, at: At, size: Rounded, met: bool) -> Geographic
+fn geographic_at(s: &[u8], o: Origin, xp: i64, at: At, size: Rounded<i64>, met: bool) -> Geographic
     requires { ((check_of s.now).number ≡ 0) × (o ≡ origin_of s.now) × InTable s.now latitude at × (size.value ≡ size_of s.now (nat_abs xp) (offset_of at)) × (size_known s.now size.value ≡ true) × (size.half ≡ size_half s.now (nat_abs xp) (offset_of at)) }
     ensures { result ≡ geographic_at s.now xp (offset_of at) met }
 {

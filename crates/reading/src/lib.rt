@@ -6,7 +6,7 @@ ghost use Rattle.std.specs.Int.Signed.{le_z};
 ghost use Rattle.rounding.specs.Ranges.{most_count, most_step};
 ghost use Rattle.reading.specs.Tables.{column, past_row, past_row_half, within_rows, offset_of, Stepped, Among};
 
-use rounding::{Rounded, RoundedSize};
+use rounding::Rounded;
 
 // A position in a table: so much past a row that has a next, up to the whole step between the two. The last row is a whole step past the one before it, so that there is always a next.
 // `past` and `step` have 32 bits, as a word has: so products with a word are narrow ones, which some processors work faster.
@@ -18,7 +18,7 @@ pub struct At {
 }
 
 // The value of column c at a position, for a body of w words in a row.
-pub fn past_row(b: &[u8], w: usize, c: usize, at: At) -> Rounded
+pub fn past_row(b: &[u8], w: usize, c: usize, at: At) -> Rounded<i64>
     requires { Stepped at × (4 * (w * at.row + c + w) + 4 ≤ length b.now) }
     ensures { (result.value ≡ past_row (column b.now w c) at.row at.past at.step) × (result.half ≡ past_row_half (column b.now w c) at.row at.past at.step) }
 {
@@ -32,7 +32,7 @@ pub fn past_row(b: &[u8], w: usize, c: usize, at: At) -> Rounded
 }
 
 // The same where neither figure is negative: the words are read without a sign.
-pub fn size_past_row(b: &[u8], w: usize, c: usize, at: At) -> RoundedSize
+pub fn size_past_row(b: &[u8], w: usize, c: usize, at: At) -> Rounded<u64>
     requires { Stepped at × (4 * (w * at.row + c + w) + 4 ≤ length b.now) × (le_z (pos 0) (column b.now w c at.row) ≡ true) × (le_z (pos 0) (column b.now w c (at.row + 1)) ≡ true) }
     ensures { (pos result.value ≡ past_row (column b.now w c) at.row at.past at.step) × (result.half ≡ past_row_half (column b.now w c) at.row at.past at.step) }
 {

@@ -6,17 +6,10 @@ ghost use Rattle.rounding.specs.Nearest.{with_sign, nearest_size, nearest, on_ha
 ghost use Rattle.rounding.specs.Between.{between, between_half, lowered};
 ghost use Rattle.rounding.specs.Ranges.{most_row, most_step, most_numerator, most_divisor};
 
-// A number after rounding, and whether its exact value was a half: halfway between two whole numbers.
+// A number or a size after rounding, and whether its exact value was a half: halfway between two whole numbers.
 #[derive(Clone, Copy)]
-pub struct Rounded {
-    pub value: i64,
-    pub half: bool,
-}
-
-// The same of a size.
-#[derive(Clone, Copy)]
-pub struct RoundedSize {
-    pub value: u64,
+pub struct Rounded<T> {
+    pub value: T,
     pub half: bool,
 }
 
@@ -39,7 +32,7 @@ pub fn with_sign(l: i64, size: i64) -> i64
 // The whole number nearest to n/d, where n is a size; an exact half goes up.
 // n is quotient · d + rest, and the rest is below d. If twice the rest is below d, n/d is nearer to the quotient. If it is above d, n/d is nearer to the next number, quotient + 1.
 // If it is d, n/d is halfway between the two: a half, and the next number is the answer.
-pub fn nearest_size(n: u64, d: u64) -> RoundedSize
+pub fn nearest_size(n: u64, d: u64) -> Rounded<u64>
     requires { (n ≤ most_numerator) × (0 < d) × (d ≤ most_divisor) }
     ensures { (result.value ≡ nearest_size n d) × (result.half ≡ on_half_size n d) }
 {
@@ -48,9 +41,9 @@ pub fn nearest_size(n: u64, d: u64) -> RoundedSize
     let half = twice_rest == d;
     if d <= twice_rest {
         let next = quotient + 1;
-        RoundedSize { value: next, half }
+        Rounded { value: next, half }
     } else {
-        RoundedSize {
+        Rounded {
             value: quotient,
             half,
         }
@@ -63,7 +56,7 @@ pub fn nearest_size(n: u64, d: u64) -> RoundedSize
 // - −0.9875 to three places is −987.5 thousandths, so −9,875/10. 9,875/10 has the quotient 987 and the rest 5. Twice the rest is 10, which is d, so it is halfway and gives 988.
 //   The answer is −988, which is −0.988, from a half.
 // - −7/3: 7/3 has the quotient 2 and the rest 1. Twice the rest is 2, below 3, so 7/3 gives 2. The answer is −2, from no half.
-pub fn nearest(n: i64, d: u64) -> Rounded
+pub fn nearest(n: i64, d: u64) -> Rounded<i64>
     requires { (nat_abs n ≤ most_numerator) × (0 < d) × (d ≤ most_divisor) }
     ensures { (result.value ≡ nearest n d) × (result.half ≡ on_half n d) }
 {
@@ -80,7 +73,7 @@ const RAISED: u64 = 2_147_483_648;
 // The value on the straight line from one row to the next, a step apart, at an offset t: the first row's figure at 0, the next row's at the step.
 // u and w are the two figures, each raised; the answer is not raised. The sum takes u step − t times and w t times, which is step times in all, so it is too high by RAISED times the step.
 // That is taken off before the one rounding: half way from −1 to 0 is −1/2, which goes to −1. Rounded first, it would go to 0.
-pub fn between(u: u64, w: u64, t: u32, step: u32) -> Rounded
+pub fn between(u: u64, w: u64, t: u32, step: u32) -> Rounded<i64>
     requires { (u ≤ most_row) × (w ≤ most_row) × (t ≤ step) × (step ≤ most_step) × (0 < step) }
     ensures { (result.value ≡ between (lowered u) (lowered w) t step) × (result.half ≡ between_half (lowered u) (lowered w) t step) }
 {

@@ -9,7 +9,7 @@ ghost use Rattle.latitude_rows.specs.Rows.{latitude_fault};
 ghost use Rattle.small_rows.specs.SmallRows.{longitude_fault};
 ghost use Rattle.sheet_check.specs.Check.{row_fault, fault_of, check_of};
 
-use contents::Verdict;
+use contents::{Table, Verdict};
 use refusals::Fault;
 
 // The number of the fault of longitude row i, one of n. The last row has no next.
@@ -107,7 +107,12 @@ fn body_of(s: &[u8], kind: usize) -> Fault
     ensures { result ≡ fault_of s.now kind }
 {
     let place = entries::place_of(s, kind);
-    body(kind, contents::body(s, place, kind), place.rows)
+    let table = Table {
+        sheet: s,
+        kind,
+        place,
+    };
+    body(kind, table.body(), place.rows)
 }
 
 // The check's answer: number, kind, row. A pass is 0 0 0.

@@ -10,9 +10,9 @@ use Rattle.tables.proofs.a_at.Goals as goal
 pub returns : goal.returns
 unfolding a_at a_half
 returns c =
-    let p = c.requires in
-    let e = c.value_by.ensures.0 ∙ latitude_is _ p.0.passes 7 _ in
-    (e, rw e (a_most _ p.0.passes _ (table_within _ _ _ p.1)), c.value_by.ensures.1 ∙ latitude-half_is _ p.0.passes 7 _)
+    let p = c.args.sheet.known in
+    let e = c.value_by.ensures.0 ∙ latitude_is _ p.passes 7 _ in
+    (e, rw e (a_most _ p.passes _ (table_within _ _ _ c.requires)), c.value_by.ensures.1 ∙ latitude-half_is _ p.passes 7 _)
 
 pub value_by-requires : goal.value_by-requires
 value_by-requires c = search (latitude-placed, rules)

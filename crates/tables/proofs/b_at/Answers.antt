@@ -9,9 +9,9 @@ use Rattle.tables.proofs.b_at.Goals as goal
 pub returns : goal.returns
 unfolding b_at b_half
 returns c =
-    let p = c.requires in
+    let p = c.args.sheet.known in
     let e = c.value_by.ensures.0 in
-    (e, rw e (b_between _ p.0.passes _ (table_within _ _ _ p.1)), c.value_by.ensures.1)
+    (e, rw e (b_between _ p.passes _ (table_within _ _ _ c.requires)), c.value_by.ensures.1)
 
 pub value_by-requires : goal.value_by-requires
 value_by-requires c = search (longitude-placed, rules)

@@ -11,16 +11,16 @@ use Rattle.tables.proofs.k_at.Goals as goal
 pub signed-requires : goal.signed-requires
 unfolding k_at
 signed-requires c =
-    let p = c.requires in
-    read_small c.size_by.ensures.0 (k_between _ p.0.passes _ (table_within _ _ _ p.1)) tt
+    let p = c.args.sheet.known in
+    read_small c.size_by.ensures.0 (k_between _ p.passes _ (table_within _ _ _ c.requires)) tt
 
 pub returns : goal.returns
 unfolding k_at k_half
 returns c =
-    let p = c.requires in
+    let p = c.args.sheet.known in
     let read = c.size_by.ensures in
     let e = c.signed.ensures.0 ∙ read.0 in
-    (e, rw e (k_between _ p.0.passes _ (table_within _ _ _ p.1)).high, c.signed.ensures.1 ∙ read.1)
+    (e, rw e (k_between _ p.passes _ (table_within _ _ _ c.requires)).high, c.signed.ensures.1 ∙ read.1)
 
 pub size_by-requires : goal.size_by-requires
 size_by-requires c = search (scale-placed, k_rows, rules)

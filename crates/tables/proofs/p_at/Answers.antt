@@ -10,8 +10,8 @@ use Rattle.tables.proofs.p_at.Goals as goal
 pub returns : goal.returns
 unfolding p_at p_half
 returns c =
-    let p = c.requires in
-    let h = p_between _ p.0.passes _ (table_within _ _ _ p.1) in
+    let p = c.args.sheet.known in
+    let h = p_between _ p.passes _ (table_within _ _ _ c.requires) in
     let e = c.size_by.ensures.0 in
     (read_is e h, read_high e h, c.size_by.ensures.1)
 

@@ -11,10 +11,10 @@ use Rattle.tables.proofs.v_at.Goals as goal
 pub returns : goal.returns
 unfolding v_at v_half
 returns c =
-    let p = c.requires in
-    let h = v_between _ p.0.passes _ (table_within _ _ _ p.1) in
-    let e = c.size_by.ensures.0 ∙ latitude_is _ p.0.passes 5 _ in
-    (read_is e h, read_high e h, c.size_by.ensures.1 ∙ latitude-half_is _ p.0.passes 5 _)
+    let p = c.args.sheet.known in
+    let h = v_between _ p.passes _ (table_within _ _ _ c.requires) in
+    let e = c.size_by.ensures.0 ∙ latitude_is _ p.passes 5 _ in
+    (read_is e h, read_high e h, c.size_by.ensures.1 ∙ latitude-half_is _ p.passes 5 _)
 
 pub size_by-requires : goal.size_by-requires
 size_by-requires c = search (latitude-placed, v_rows, rules)

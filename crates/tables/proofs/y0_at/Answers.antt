@@ -11,16 +11,16 @@ use Rattle.tables.proofs.y0_at.Goals as goal
 pub signed-requires : goal.signed-requires
 unfolding y0_at
 signed-requires c =
-    let p = c.requires in
-    read_small (c.size_by.ensures.0 ∙ latitude_is _ p.0.passes 1 _) (y0_between _ p.0.passes _ (table_within _ _ _ p.1)) tt
+    let p = c.args.sheet.known in
+    read_small (c.size_by.ensures.0 ∙ latitude_is _ p.passes 1 _) (y0_between _ p.passes _ (table_within _ _ _ c.requires)) tt
 
 pub returns : goal.returns
 unfolding y0_at y0_half
 returns c =
-    let p = c.requires in
+    let p = c.args.sheet.known in
     let read = c.size_by.ensures in
-    let e = c.signed.ensures.0 ∙ read.0 ∙ latitude_is _ p.0.passes 1 _ in
-    (e, rw e (y0_between _ p.0.passes _ (table_within _ _ _ p.1)).high, c.signed.ensures.1 ∙ read.1 ∙ latitude-half_is _ p.0.passes 1 _)
+    let e = c.signed.ensures.0 ∙ read.0 ∙ latitude_is _ p.passes 1 _ in
+    (e, rw e (y0_between _ p.passes _ (table_within _ _ _ c.requires)).high, c.signed.ensures.1 ∙ read.1 ∙ latitude-half_is _ p.passes 1 _)
 
 pub size_by-requires : goal.size_by-requires
 size_by-requires c = search (latitude-placed, y0_rows, rules)
