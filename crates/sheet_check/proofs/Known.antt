@@ -1,18 +1,24 @@
 -- A sheet known to pass: its contents have no fault, and each kind's place is its own. Assumes nothing.
 use mathlib.Core.Path.{◌≡◌, ap}
 use mathlib.Core.List.{List}
-use Prim.Native.Nat.{ℕ}
+use Prim.Native.Nat.{ℕ, ◌≤◌}
 use lib.Dec.{lit≤}
+use lib.ListN.{length}
 use Rattle.entries.specs.declared.Places.{Places}
-use Rattle.entries.specs.Layout.{zone, latitude, longitude, northing, easting, scale}
-use Rattle.entries.specs.Entries.{places_of}
+use Rattle.entries.specs.Layout.{least_bytes, zone, latitude, longitude, northing, easting, scale}
+use Rattle.entries.specs.Entries.{form_of, places_of}
 use Rattle.contents.specs.Contents.{number_of, contents_of, Placed}
+use Rattle.contents.proofs.Passing.{passed}
 use Rattle.sheet_check.specs.Check.{check_of, KnownToPass}
 use Rattle.sheet_check.proofs.Sound.{passes_sound}
 
 -- a sheet that passes has contents that pass
 pub contents-none : (s : List ℕ) → (check_of s).number ≡ 0 → (contents_of s).number ≡ 0
 contents-none s z = ap number_of (passes_sound s z).contents
+
+-- so it is as long as its contents
+pub sheet_long : (s : List ℕ) → (check_of s).number ≡ 0 → least_bytes (form_of s) ≤ length s
+sheet_long s z = (passed s (contents-none s z)).long
 
 module _ (s : List ℕ) (p : Places) (known : KnownToPass s p) where
   pub zone-placed : Placed s zone p.zone

@@ -5,6 +5,7 @@ use mathlib.Core.List.{List}
 use Prim.Native.Nat.{ℕ, ◌*◌, ◌-◌, ◌^◌, ◌<◌, ◌≤◌, min}
 use native.Mathlib.Nat.{le_refl}
 use native.Mathlib.Omega.{arith}
+use lib.Dec.{lit≤}
 use lib.IntN.{ℤ, nat_abs}
 use lib.ListN.{length}
 use lib.Signed.{le_z}
@@ -12,7 +13,8 @@ use Rattle.entries.specs.declared.Places.{Places}
 use Rattle.entries.specs.Layout.{latitude, width_of}
 use Rattle.entries.specs.Entries.{rows_of, body_of}
 use Rattle.sheet_check.specs.Check.{KnownToPass}
-use Rattle.sheet_check.proofs.Known.{latitude-placed}
+use Rattle.contents.proofs.Passing.{body_length}
+use Rattle.sheet_check.proofs.Known.{contents-none, latitude-placed}
 use Rattle.reading.specs.Tables.{column, NotNegative}
 use Rattle.row_search.specs.Rows.{last_not_above, Rising}
 use Rattle.row_search.proofs.LastRow.{but_last}
@@ -38,7 +40,7 @@ module _ (s : List ℕ) (p : Places) (known : KnownToPass s p) where
   before_all = omega (arith, rows_are)
 
   -- the first n rows of it
-  module _ (b : List ℕ) (is : b ≡ body_of s latitude) (long : length b ≡ 4 * (p.latitude.rows * width_of latitude)) (n : ℕ) (among : n ≤ rows_of s latitude) where
+  module _ (b : List ℕ) (is : b ≡ body_of s latitude) (n : ℕ) (among : n ≤ rows_of s latitude) where
     abbrev lent : ℕ → ℤ
     lent = column b (width_of latitude) 1
 
@@ -47,7 +49,9 @@ module _ (s : List ℕ) (p : Places) (known : KnownToPass s p) where
     lent_is = rw is
 
     pub lent_long : 4 * (width_of latitude * n) ≤ length b
-    lent_long = omega (arith, long, rows_are)
+    lent_long =
+        let long : length b ≡ 4 * (rows_of s latitude * width_of latitude) = rw is (body_length s (contents-none s known.passes) latitude (lit≤ tt) (lit≤ tt)) in
+        omega (arith, long)
 
     all_sizes : NotNegative lent (rows_of s latitude)
     all_sizes = rw is (y0_rows s known.passes)

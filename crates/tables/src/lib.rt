@@ -39,7 +39,7 @@ pub struct Passed<'a> {
 // The kind's table in a sheet known to pass, with its places.
 fn table_of<'a>(sheet: &'a [u8], p: Places, kind: usize) -> Table<'a>
     requires { KnownToPass sheet.now p × (1 ≤ kind) × (kind ≤ last_kind) }
-    ensures { (result.sheet ≡ sheet.entry) × (result.kind ≡ kind) }
+    ensures { (result.sheet.now ≡ sheet.now) × (result.kind ≡ kind) }
 {
     let place = match kind {
         ZONE => p.zone,
@@ -56,7 +56,7 @@ impl<'a> Passed<'a> {
     // The kind's table.
     pub fn table(self, kind: usize) -> Table<'a>
         requires { (1 ≤ kind) × (kind ≤ last_kind) }
-        ensures { (result.sheet ≡ self.entry.bytes) × (result.kind ≡ kind) }
+        ensures { (result.sheet.now ≡ self.entry.bytes.now) × (result.kind ≡ kind) }
     {
         table_of(self.bytes, self.places, kind)
     }
