@@ -9,8 +9,8 @@ ghost use Rattle.sheet_check.specs.Check.{KnownToPass};
 ghost use Rattle.extent.specs.Extent.{scale_known, northing_known};
 ghost use Rattle.convergence.specs.Grid.{grid_of, taken_at, worked_of};
 
-use entries::Places;
 use rounding::Rounded;
+use tables::Passed;
 
 // The grid at a point: the convergence Δα in 0.1″, the scale k in 10⁻⁷, and whether some rounding on the way to them met a half. A refusal has its number, zeros and no half.
 #[derive(Clone, Copy)]
@@ -29,31 +29,31 @@ pub struct Taken {
 }
 
 // Reading: the figures of a point within the tables, at the steps that the two tables have.
-fn taken_by(s: &[u8], p: Places, xp: i64, y: i32, north: u64, east: u64) -> Taken
-    requires { KnownToPass s.now p × (scale_known s.now xp ≡ true) × (northing_known s.now y ≡ true) × (north ≡ step_of s.now northing) × (east ≡ step_of s.now scale) }
-    ensures { (result ≡ taken_at s.now xp y) × (result.m.value ≤ most_m) × (nat_abs result.k.value ≤ 10_010_000) }
+fn taken_by(sheet: Passed, xp: i64, y: i32, north: u64, east: u64) -> Taken
+    requires { (scale_known sheet.bytes.now xp ≡ true) × (northing_known sheet.bytes.now y ≡ true) × (north ≡ step_of sheet.bytes.now northing) × (east ≡ step_of sheet.bytes.now scale) }
+    ensures { (result ≡ taken_at sheet.entry.bytes.now xp y) × (result.m.value ≤ most_m) × (nat_abs result.k.value ≤ 10_010_000) }
 {
-    let at = extent::position(s, p.northing, entries::NORTHING, north, (y as i64) as u64);
-    let m = tables::m_at(s, p, at);
+    let at = extent::position(sheet, entries::NORTHING, north, (y as i64) as u64);
+    let m = tables::m_at(sheet, at);
     let size = rounding::size(xp);
-    let beside = extent::position(s, p.scale, entries::SCALE, east, size);
+    let beside = extent::position(sheet, entries::SCALE, east, size);
     Taken {
         m,
-        k: tables::k_at(s, p, beside),
+        k: tables::k_at(sheet, beside),
     }
 }
 
 // The same at the tables' own steps. The usual ones are tested for, and given as constants.
-fn taken_at(s: &[u8], p: Places, xp: i64, y: i32) -> Taken
-    requires { KnownToPass s.now p × (scale_known s.now xp ≡ true) × (northing_known s.now y ≡ true) }
-    ensures { (result ≡ taken_at s.now xp y) × (result.m.value ≤ most_m) × (nat_abs result.k.value ≤ 10_010_000) }
+fn taken_at(sheet: Passed, xp: i64, y: i32) -> Taken
+    requires { (scale_known sheet.bytes.now xp ≡ true) × (northing_known sheet.bytes.now y ≡ true) }
+    ensures { (result ≡ taken_at sheet.entry.bytes.now xp y) × (result.m.value ≤ most_m) × (nat_abs result.k.value ≤ 10_010_000) }
 {
     let north = entries::usual_step(entries::NORTHING);
     let east = entries::usual_step(entries::SCALE);
-    if (p.northing.step == north) & (p.scale.step == east) {
-        return taken_by(s, p, xp, y, north, east);
+    if (sheet.places.northing.step == north) & (sheet.places.scale.step == east) {
+        return taken_by(sheet, xp, y, north, east);
     }
-    taken_by(s, p, xp, y, p.northing.step, p.scale.step)
+    taken_by(sheet, xp, y, sheet.places.northing.step, sheet.places.scale.step)
 }
 
 // Working: the grid at a point, from its figures and x'.
@@ -71,13 +71,11 @@ pub fn worked(f: Taken, xp: i64) -> Grid
 }
 
 // Convergence and scale: 12, 13, or Δα and k.
-pub fn convergence(s: &[u8], p: Places, x: i32, y: i32) -> Grid
-    requires { KnownToPass s.now p }
-    ensures { result ≡ grid_of s.now x y }
+pub fn convergence(sheet: Passed, x: i32, y: i32) -> Grid
+    ensures { result ≡ grid_of sheet.entry.bytes.now x y }
 {
-    let o = tables::origin_of(s, p);
-    let xp = extent::x_prime(s, o, x);
-    if !extent::scale_known(s, p, xp) {
+    let xp = extent::x_prime(sheet, x);
+    if !extent::scale_known(sheet, xp) {
         return Grid {
             number: 12,
             convergence: 0,
@@ -85,7 +83,7 @@ pub fn convergence(s: &[u8], p: Places, x: i32, y: i32) -> Grid
             half: false,
         };
     }
-    if !extent::northing_known(s, p, y) {
+    if !extent::northing_known(sheet, y) {
         return Grid {
             number: 13,
             convergence: 0,
@@ -93,5 +91,5 @@ pub fn convergence(s: &[u8], p: Places, x: i32, y: i32) -> Grid
             half: false,
         };
     }
-    worked(taken_at(s, p, xp, y), xp)
+    worked(taken_at(sheet, xp, y), xp)
 }

@@ -11,10 +11,9 @@ ghost use Rattle.tables.specs.Figures.{InTable, origin_of};
 ghost use Rattle.extent.specs.Extent.{latitude_known, longitude_known};
 ghost use Rattle.forward.specs.Forward.{plane_at, forward_of, longitude_at, taken_at, worked_x, worked_x_half, worked_y, worked_y_half, worked_of, Workable};
 
-use entries::Places;
 use reading::At;
 use rounding::Rounded;
-use tables::Origin;
+use tables::Passed;
 
 // A point on the plane: x and y in 0.01 ft, and whether some rounding on the way to them met a half. A refusal has its number, zeros and no half.
 #[derive(Clone, Copy)]
@@ -44,45 +43,45 @@ pub struct Longitude {
 }
 
 // Reading: b and c, at a size of L and at the step that the table has.
-fn longitude_by(s: &[u8], p: Places, step: u64, size: u64) -> Longitude
-    requires { KnownToPass s.now p × (step ≡ step_of s.now longitude) × Within s.now longitude size }
-    ensures { result ≡ longitude_at s.now size }
+fn longitude_by(sheet: Passed, step: u64, size: u64) -> Longitude
+    requires { (step ≡ step_of sheet.bytes.now longitude) × Within sheet.bytes.now longitude size }
+    ensures { result ≡ longitude_at sheet.entry.bytes.now size }
 {
-    let at = extent::position(s, p.longitude, entries::LONGITUDE, step, size);
+    let at = extent::position(sheet, entries::LONGITUDE, step, size);
     Longitude {
-        c: tables::c_at(s, p, at),
-        b: tables::b_at(s, p, at),
+        c: tables::c_at(sheet, at),
+        b: tables::b_at(sheet, at),
     }
 }
 
 // The same, whatever the table's step is. If it is the usual one, it is handed on as a constant; position and readings stand together behind the test, or the compiler would make the
 // two ways one.
-fn longitude_at(s: &[u8], p: Places, size: u64) -> Longitude
-    requires { KnownToPass s.now p × Within s.now longitude size }
-    ensures { result ≡ longitude_at s.now size }
+fn longitude_at(sheet: Passed, size: u64) -> Longitude
+    requires { Within sheet.bytes.now longitude size }
+    ensures { result ≡ longitude_at sheet.entry.bytes.now size }
 {
     let usual = entries::usual_step(entries::LONGITUDE);
-    if p.longitude.step == usual {
-        return longitude_by(s, p, usual, size);
+    if sheet.places.longitude.step == usual {
+        return longitude_by(sheet, usual, size);
     }
-    longitude_by(s, p, p.longitude.step, size)
+    longitude_by(sheet, sheet.places.longitude.step, size)
 }
 
 // Reading: the figures at the latitude's position and at the size of L.
-fn taken_at(s: &[u8], p: Places, north: At, size: u64) -> Taken
-    requires { KnownToPass s.now p × InTable s.now latitude north × Within s.now longitude size }
-    ensures { result ≡ taken_at s.now (offset_of north) size }
+fn taken_at(sheet: Passed, north: At, size: u64) -> Taken
+    requires { InTable sheet.bytes.now latitude north × Within sheet.bytes.now longitude size }
+    ensures { result ≡ taken_at sheet.entry.bytes.now (offset_of north) size }
 {
-    let read = longitude_at(s, p, size);
+    let read = longitude_at(sheet, size);
     let b = read.b;
     let c = read.c;
     Taken {
         b,
         c,
-        h: tables::h_at(s, p, north),
-        a: tables::a_at(s, p, north),
-        v: tables::v_at(s, p, north),
-        y0: tables::y0_at(s, p, north),
+        h: tables::h_at(sheet, north),
+        a: tables::a_at(sheet, north),
+        v: tables::v_at(sheet, north),
+        y0: tables::y0_at(sheet, north),
     }
 }
 
@@ -127,23 +126,22 @@ pub fn worked(f: Taken, easting: i64, l: i64) -> Plane
 }
 
 // The point on the plane, of a latitude and a longitude within the tables. Each position is worked once.
-fn plane_at(s: &[u8], p: Places, o: Origin, latitude: i32, longitude: i32) -> Plane
-    requires { KnownToPass s.now p × (o ≡ origin_of s.now) × (latitude_known s.now latitude ≡ true) × (longitude_known s.now longitude ≡ true) }
-    ensures { result ≡ plane_at s.now latitude longitude }
+fn plane_at(sheet: Passed, latitude: i32, longitude: i32) -> Plane
+    requires { (latitude_known sheet.bytes.now latitude ≡ true) × (longitude_known sheet.bytes.now longitude ≡ true) }
+    ensures { result ≡ plane_at sheet.entry.bytes.now latitude longitude }
 {
-    let t = extent::from_first(s, o, latitude) as u64;
-    let l = extent::l_of(s, o, longitude);
-    let north = extent::position(s, p.latitude, entries::LATITUDE, entries::ONE_MINUTE, t);
-    let taken = taken_at(s, p, north, rounding::size(l));
-    worked(taken, o.false_easting, l)
+    let t = extent::from_first(sheet, latitude) as u64;
+    let l = extent::l_of(sheet, longitude);
+    let north = extent::position(sheet, entries::LATITUDE, entries::ONE_MINUTE, t);
+    let taken = taken_at(sheet, north, rounding::size(l));
+    worked(taken, sheet.origin.false_easting, l)
 }
 
-// Geographic to plane: 10, 11, or x and y, measured from the sheet's origin, which is read once for many points.
-pub fn forward_from(s: &[u8], p: Places, o: Origin, latitude: i32, longitude: i32) -> Plane
-    requires { KnownToPass s.now p × (o ≡ origin_of s.now) }
-    ensures { result ≡ forward_of s.now latitude longitude }
+// Geographic to plane: 10, 11, or x and y.
+pub fn forward(sheet: Passed, latitude: i32, longitude: i32) -> Plane
+    ensures { result ≡ forward_of sheet.entry.bytes.now latitude longitude }
 {
-    if !extent::latitude_known(s, p, o, latitude) {
+    if !extent::latitude_known(sheet, latitude) {
         return Plane {
             number: 10,
             x: 0,
@@ -151,7 +149,7 @@ pub fn forward_from(s: &[u8], p: Places, o: Origin, latitude: i32, longitude: i3
             half: false,
         };
     }
-    if !extent::longitude_known(s, p, o, longitude) {
+    if !extent::longitude_known(sheet, longitude) {
         return Plane {
             number: 11,
             x: 0,
@@ -159,13 +157,5 @@ pub fn forward_from(s: &[u8], p: Places, o: Origin, latitude: i32, longitude: i3
             half: false,
         };
     }
-    plane_at(s, p, o, latitude, longitude)
-}
-
-// Geographic to plane: 10, 11, or x and y.
-pub fn forward(s: &[u8], p: Places, latitude: i32, longitude: i32) -> Plane
-    requires { KnownToPass s.now p }
-    ensures { result ≡ forward_of s.now latitude longitude }
-{
-    forward_from(s, p, tables::origin_of(s, p), latitude, longitude)
+    plane_at(sheet, latitude, longitude)
 }

@@ -13,10 +13,9 @@ ghost use Rattle.tables.specs.Figures.{InTable, origin_of, b_at, b_half, p_at, p
 ghost use Rattle.extent.specs.Extent.{size_known, easting_known, northing_known, reduced_known};
 ghost use Rattle.inverse.specs.Inverse.{reduced_northing, reduced_half, row_of, distance_of, distance_half, size_of, size_half, geographic_at, from_distance, from_reduced, inverse_of, for_reduction, reduced_by, reduced_by_half, seconds_by, seconds_by_half, taken_at, approximate_by, size_by, size_by_half};
 
-use entries::Places;
 use reading::At;
 use rounding::Rounded;
-use tables::Origin;
+use tables::Passed;
 
 // A point on the earth: latitude and west longitude in 0.001″, and whether some rounding on the way to them met a half. A refusal has its number, zeros and no half.
 #[derive(Clone, Copy)]
@@ -35,41 +34,41 @@ pub struct ForReduction {
 }
 
 // Reading: P at y, at the step that the table has.
-fn p_by(s: &[u8], p: Places, step: u64, y: u64) -> Rounded<u64>
-    requires { KnownToPass s.now p × (step ≡ step_of s.now northing) × Within s.now northing y }
-    ensures { (result.value ≡ p_at s.now y) × (result.value ≤ most_p) × (result.half ≡ p_half s.now y) }
+fn p_by(sheet: Passed, step: u64, y: u64) -> Rounded<u64>
+    requires { (step ≡ step_of sheet.bytes.now northing) × Within sheet.bytes.now northing y }
+    ensures { (result.value ≡ p_at sheet.entry.bytes.now y) × (result.value ≤ most_p) × (result.half ≡ p_half sheet.entry.bytes.now y) }
 {
-    let at = extent::position(s, p.northing, entries::NORTHING, step, y);
-    tables::p_at(s, p, at)
+    let at = extent::position(sheet, entries::NORTHING, step, y);
+    tables::p_at(sheet, at)
 }
 
 // Reading: d at a size of x', at the step that the table has.
-fn d_by(s: &[u8], p: Places, step: u64, size: u64) -> Rounded<i64>
-    requires { KnownToPass s.now p × (step ≡ step_of s.now easting) × Within s.now easting size }
-    ensures { (result.value ≡ d_at s.now size) × (nat_abs result.value ≤ most_d) × (result.half ≡ d_half s.now size) }
+fn d_by(sheet: Passed, step: u64, size: u64) -> Rounded<i64>
+    requires { (step ≡ step_of sheet.bytes.now easting) × Within sheet.bytes.now easting size }
+    ensures { (result.value ≡ d_at sheet.entry.bytes.now size) × (nat_abs result.value ≤ most_d) × (result.half ≡ d_half sheet.entry.bytes.now size) }
 {
-    let at = extent::position(s, p.easting, entries::EASTING, step, size);
-    tables::d_at(s, p, at)
+    let at = extent::position(sheet, entries::EASTING, step, size);
+    tables::d_at(sheet, at)
 }
 
 // Reading: P and d of a point within their tables. The usual steps are tested for, and given as constants. Position and reading stand together behind the test, or the compiler would
 // make the two ways one; and in a function for each figure, or it would not be compiled in.
-pub fn for_reduction(s: &[u8], p: Places, x: u64, y: i32) -> ForReduction
-    requires { KnownToPass s.now p × Within s.now easting x × (northing_known s.now y ≡ true) }
-    ensures { (result ≡ for_reduction s.now x y) × (result.p.value ≤ most_p) × (nat_abs result.d.value ≤ most_d) }
+pub fn for_reduction(sheet: Passed, x: u64, y: i32) -> ForReduction
+    requires { Within sheet.bytes.now easting x × (northing_known sheet.bytes.now y ≡ true) }
+    ensures { (result ≡ for_reduction sheet.entry.bytes.now x y) × (result.p.value ≤ most_p) × (nat_abs result.d.value ≤ most_d) }
 {
     let up = (y as i64) as u64;
     let north = entries::usual_step(entries::NORTHING);
     let east = entries::usual_step(entries::EASTING);
-    if (p.northing.step == north) & (p.easting.step == east) {
+    if (sheet.places.northing.step == north) & (sheet.places.easting.step == east) {
         return ForReduction {
-            p: p_by(s, p, north, up),
-            d: d_by(s, p, east, x),
+            p: p_by(sheet, north, up),
+            d: d_by(sheet, east, x),
         };
     }
     ForReduction {
-        p: p_by(s, p, p.northing.step, up),
-        d: d_by(s, p, p.easting.step, x),
+        p: p_by(sheet, sheet.places.northing.step, up),
+        d: d_by(sheet, sheet.places.easting.step, x),
     }
 }
 
@@ -86,11 +85,11 @@ pub fn reduced_of(f: ForReduction, x: u64, y: i32) -> Rounded<i64>
 }
 
 // The reduced northing, in 0.01 ft, at the size x of x' and y.
-pub fn reduced_northing(s: &[u8], p: Places, x: u64, y: i32) -> Rounded<i64>
-    requires { KnownToPass s.now p × Within s.now easting x × (northing_known s.now y ≡ true) }
-    ensures { (result.value ≡ reduced_northing s.now x y) × (nat_abs result.value < 2 ^ 62) × (result.half ≡ reduced_half s.now x y) }
+pub fn reduced_northing(sheet: Passed, x: u64, y: i32) -> Rounded<i64>
+    requires { Within sheet.bytes.now easting x × (northing_known sheet.bytes.now y ≡ true) }
+    ensures { (result.value ≡ reduced_northing sheet.entry.bytes.now x y) × (nat_abs result.value < 2 ^ 62) × (result.half ≡ reduced_half sheet.entry.bytes.now x y) }
 {
-    reduced_of(for_reduction(s, p, x, y), x, y)
+    reduced_of(for_reduction(sheet, x, y), x, y)
 }
 
 // How far high stands above low, both northings in 0.01 ft.
@@ -110,12 +109,12 @@ pub fn seconds_between(y0: i64, next: i64, reduced: i64) -> Rounded<u64>
 }
 
 // The seconds of the reduced northing past its row. Where that row is the last, they are counted from the row before: the whole minute, and no half.
-fn seconds_past(s: &[u8], p: Places, reduced: i64, row: usize) -> Rounded<u64>
-    requires { KnownToPass s.now p × (reduced_known s.now reduced ≡ true) × (row ≡ min (row_of s.now reduced) (rows_of s.now latitude - 2)) }
-    ensures { (row * one_minute + result.value ≡ distance_of s.now reduced) × (result.value ≤ one_minute) × (result.half ≡ distance_half s.now reduced) }
+fn seconds_past(sheet: Passed, reduced: i64, row: usize) -> Rounded<u64>
+    requires { (reduced_known sheet.bytes.now reduced ≡ true) × (row ≡ min (row_of sheet.bytes.now reduced) (rows_of sheet.bytes.now latitude - 2)) }
+    ensures { (row * one_minute + result.value ≡ distance_of sheet.entry.bytes.now reduced) × (result.value ≤ one_minute) × (result.half ≡ distance_half sheet.entry.bytes.now reduced) }
 {
-    let y0 = tables::y0_of(s, p, row);
-    seconds_between(y0, tables::y0_of(s, p, row + 1), reduced)
+    let y0 = tables::y0_of(sheet, row);
+    seconds_between(y0, tables::y0_of(sheet, row + 1), reduced)
 }
 
 // What L is worked from, beside b, as it was read: H and a at the latitude's position.
@@ -126,35 +125,35 @@ pub struct Taken {
 }
 
 // Reading: H and a.
-fn taken_at(s: &[u8], p: Places, at: At) -> Taken
-    requires { KnownToPass s.now p × InTable s.now latitude at }
-    ensures { (result ≡ taken_at s.now (offset_of at)) × (30_000_000 ≤ result.h.value) × (result.h.value ≤ most_h) × (nat_abs result.a.value ≤ most_a) }
+fn taken_at(sheet: Passed, at: At) -> Taken
+    requires { InTable sheet.bytes.now latitude at }
+    ensures { (result ≡ taken_at sheet.entry.bytes.now (offset_of at)) × (30_000_000 ≤ result.h.value) × (result.h.value ≤ most_h) × (nat_abs result.a.value ≤ most_a) }
 {
     Taken {
-        h: tables::h_at(s, p, at),
-        a: tables::a_at(s, p, at),
+        h: tables::h_at(sheet, at),
+        a: tables::a_at(sheet, at),
     }
 }
 
 // Reading: b at a size of L, at the step that the table has.
-fn b_by(s: &[u8], p: Places, step: u64, size: u64) -> Rounded<i64>
-    requires { KnownToPass s.now p × (step ≡ step_of s.now longitude) × Within s.now longitude size }
-    ensures { (result.value ≡ b_at s.now size) × (nat_abs result.value ≤ most_b) × (result.half ≡ b_half s.now size) }
+fn b_by(sheet: Passed, step: u64, size: u64) -> Rounded<i64>
+    requires { (step ≡ step_of sheet.bytes.now longitude) × Within sheet.bytes.now longitude size }
+    ensures { (result.value ≡ b_at sheet.entry.bytes.now size) × (nat_abs result.value ≤ most_b) × (result.half ≡ b_half sheet.entry.bytes.now size) }
 {
-    let at = extent::position(s, p.longitude, entries::LONGITUDE, step, size);
-    tables::b_at(s, p, at)
+    let at = extent::position(sheet, entries::LONGITUDE, step, size);
+    tables::b_at(sheet, at)
 }
 
 // The same at the table's own step.
-fn b_at(s: &[u8], p: Places, size: u64) -> Rounded<i64>
-    requires { KnownToPass s.now p × Within s.now longitude size }
-    ensures { (result.value ≡ b_at s.now size) × (nat_abs result.value ≤ most_b) × (result.half ≡ b_half s.now size) }
+fn b_at(sheet: Passed, size: u64) -> Rounded<i64>
+    requires { Within sheet.bytes.now longitude size }
+    ensures { (result.value ≡ b_at sheet.entry.bytes.now size) × (nat_abs result.value ≤ most_b) × (result.half ≡ b_half sheet.entry.bytes.now size) }
 {
     let usual = entries::usual_step(entries::LONGITUDE);
-    if p.longitude.step == usual {
-        return b_by(s, p, usual, size);
+    if sheet.places.longitude.step == usual {
+        return b_by(sheet, usual, size);
     }
-    b_by(s, p, p.longitude.step, size)
+    b_by(sheet, sheet.places.longitude.step, size)
 }
 
 // Working: approximate L, in 0.001″, at the size x of x'.
@@ -183,27 +182,27 @@ pub fn size_of(f: Taken, b: Rounded<i64>, x: u64, met: bool) -> Rounded<i64>
 
 // The point on the earth, of x', the latitude's position and the size of L, which is within its table. Its numbers are measured from the sheet's origin, and no table
 // is read. `met`, here and below: some rounding before met a half.
-fn geographic_at(s: &[u8], o: Origin, xp: i64, at: At, size: Rounded<i64>, met: bool) -> Geographic
-    requires { ((check_of s.now).number ≡ 0) × (o ≡ origin_of s.now) × InTable s.now latitude at × (size.value ≡ size_of s.now (nat_abs xp) (offset_of at)) × (size_known s.now size.value ≡ true) × (size.half ≡ size_half s.now (nat_abs xp) (offset_of at)) }
-    ensures { result ≡ geographic_at s.now xp (offset_of at) met }
+fn geographic_at(sheet: Passed, xp: i64, at: At, size: Rounded<i64>, met: bool) -> Geographic
+    requires { InTable sheet.bytes.now latitude at × (size.value ≡ size_of sheet.bytes.now (nat_abs xp) (offset_of at)) × (size_known sheet.bytes.now size.value ≡ true) × (size.half ≡ size_half sheet.bytes.now (nat_abs xp) (offset_of at)) }
+    ensures { result ≡ geographic_at sheet.entry.bytes.now xp (offset_of at) met }
 {
     let t = (at.row as u64) * (at.step as u64) + (at.past as u64);
     Geographic {
         number: 0,
-        latitude: (o.first_latitude + (t as i64)) as i32,
-        longitude: (o.central_meridian - rounding::with_sign(xp, size.value)) as i32,
+        latitude: (sheet.origin.first_latitude + (t as i64)) as i32,
+        longitude: (sheet.origin.central_meridian - rounding::with_sign(xp, size.value)) as i32,
         half: met | size.half,
     }
 }
 
 // 11, or the point on the earth, from x' and the latitude's position.
-fn from_distance(s: &[u8], p: Places, o: Origin, xp: i64, at: At, met: bool) -> Geographic
-    requires { KnownToPass s.now p × (o ≡ origin_of s.now) × (easting_known s.now xp ≡ true) × InTable s.now latitude at }
-    ensures { result ≡ from_distance s.now xp (offset_of at) met }
+fn from_distance(sheet: Passed, xp: i64, at: At, met: bool) -> Geographic
+    requires { (easting_known sheet.bytes.now xp ≡ true) × InTable sheet.bytes.now latitude at }
+    ensures { result ≡ from_distance sheet.entry.bytes.now xp (offset_of at) met }
 {
     let x = rounding::size(xp);
-    let approximate = approximate_of(tables::h_at(s, p, at), x);
-    if !extent::size_known(s, p, approximate.value as i64) {
+    let approximate = approximate_of(tables::h_at(sheet, at), x);
+    if !extent::size_known(sheet, approximate.value as i64) {
         return Geographic {
             number: 11,
             latitude: 0,
@@ -211,9 +210,9 @@ fn from_distance(s: &[u8], p: Places, o: Origin, xp: i64, at: At, met: bool) -> 
             half: false,
         };
     }
-    let b = b_at(s, p, approximate.value); // before H and a: a word that is read before the test for b's step and used after it is put together byte by byte
-    let size = size_of(taken_at(s, p, at), b, x, approximate.half);
-    if !extent::size_known(s, p, size.value) {
+    let b = b_at(sheet, approximate.value); // before H and a: a word that is read before the test for b's step and used after it is put together byte by byte
+    let size = size_of(taken_at(sheet, at), b, x, approximate.half);
+    if !extent::size_known(sheet, size.value) {
         return Geographic {
             number: 11,
             latitude: 0,
@@ -221,15 +220,15 @@ fn from_distance(s: &[u8], p: Places, o: Origin, xp: i64, at: At, met: bool) -> 
             half: false,
         };
     }
-    geographic_at(s, o, xp, at, size, met)
+    geographic_at(sheet, xp, at, size, met)
 }
 
 // 14, 11, or the point on the earth, from x' and the reduced northing. The row that is found and the seconds past it are the latitude's position.
-fn from_reduced(s: &[u8], p: Places, o: Origin, xp: i64, reduced: i64, met: bool) -> Geographic
-    requires { KnownToPass s.now p × (o ≡ origin_of s.now) × (easting_known s.now xp ≡ true) × (nat_abs reduced < 2 ^ 62) }
-    ensures { result ≡ from_reduced s.now xp reduced met }
+fn from_reduced(sheet: Passed, xp: i64, reduced: i64, met: bool) -> Geographic
+    requires { (easting_known sheet.bytes.now xp ≡ true) × (nat_abs reduced < 2 ^ 62) }
+    ensures { result ≡ from_reduced sheet.entry.bytes.now xp reduced met }
 {
-    if !extent::reduced_known(s, p, reduced) {
+    if !extent::reduced_known(sheet, reduced) {
         return Geographic {
             number: 14,
             latitude: 0,
@@ -237,24 +236,22 @@ fn from_reduced(s: &[u8], p: Places, o: Origin, xp: i64, reduced: i64, met: bool
             half: false,
         };
     }
-    let row = tables::row_with_next(s, p, reduced);
-    let seconds = seconds_past(s, p, reduced, row);
+    let row = tables::row_with_next(sheet, reduced);
+    let seconds = seconds_past(sheet, reduced, row);
     let at = At {
         row,
         past: seconds.value as u32,
         step: entries::ONE_MINUTE as u32,
     };
-    from_distance(s, p, o, xp, at, met | seconds.half)
+    from_distance(sheet, xp, at, met | seconds.half)
 }
 
 // Plane to geographic: 12, 13, 14, 11, or latitude and longitude. The origin is read once: x' and the answer are both measured from it.
-pub fn inverse(s: &[u8], p: Places, x: i32, y: i32) -> Geographic
-    requires { KnownToPass s.now p }
-    ensures { result ≡ inverse_of s.now x y }
+pub fn inverse(sheet: Passed, x: i32, y: i32) -> Geographic
+    ensures { result ≡ inverse_of sheet.entry.bytes.now x y }
 {
-    let o = tables::origin_of(s, p);
-    let xp = extent::x_prime(s, o, x);
-    if !extent::easting_known(s, p, xp) {
+    let xp = extent::x_prime(sheet, x);
+    if !extent::easting_known(sheet, xp) {
         return Geographic {
             number: 12,
             latitude: 0,
@@ -262,7 +259,7 @@ pub fn inverse(s: &[u8], p: Places, x: i32, y: i32) -> Geographic
             half: false,
         };
     }
-    if !extent::northing_known(s, p, y) {
+    if !extent::northing_known(sheet, y) {
         return Geographic {
             number: 13,
             latitude: 0,
@@ -270,6 +267,6 @@ pub fn inverse(s: &[u8], p: Places, x: i32, y: i32) -> Geographic
             half: false,
         };
     }
-    let reduced = reduced_northing(s, p, rounding::size(xp), y);
-    from_reduced(s, p, o, xp, reduced.value, reduced.half)
+    let reduced = reduced_northing(sheet, rounding::size(xp), y);
+    from_reduced(sheet, xp, reduced.value, reduced.half)
 }

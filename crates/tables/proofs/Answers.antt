@@ -13,6 +13,8 @@ use Rattle.rounding.proofs.Sizes.{Size, size_non_neg}
 use Rattle.rounding.proofs.Holds.{Holds, held_result, held_size, renamed, unsigned_fits}
 use Rattle.entries.specs.Layout.{width_of}
 use Rattle.entries.specs.Entries.{body_of, rows_of}
+use Rattle.entries.specs.declared.Place.{Place}
+use Rattle.contents.specs.Contents.{Placed}
 use Rattle.reading.specs.declared.At.{At}
 use Rattle.reading.specs.Tables.{NotNegative}
 use Rattle.tables.specs.Figures.{InTable, figure_of, figure_at, figure_half}
@@ -81,3 +83,6 @@ module _ {s t : List ℕ} {k kind : ℕ} (here : (t ≡ s) × (k ≡ kind)) wher
 
   pub body_in : {b : List ℕ} → b ≡ body_of t k → b ≡ body_of s kind
   body_in e = e ∙ rw (here.0, here.1)
+
+  pub placed_in : {p : Place} → Placed t k p → Placed s kind p
+  placed_in placed = rw (← here.0, ← here.1) placed

@@ -6,7 +6,6 @@ use mir.Syntax.{w64}
 use mir.Val.{to_z, of_z}
 use Rattle.reading.specs.Tables.{within_rows}
 use Rattle.extent.specs.Extent.{easting_known}
-use Rattle.sheet_check.proofs.Known.{easting-placed}
 use Rattle.extent.proofs.Points.{size_small, size_signed, size_tested}
 use borrow.Author.Rules.{rules}
 use Rattle.extent.proofs.easting_known.Goals as goal
@@ -15,17 +14,14 @@ pub returns : goal.returns
 unfolding easting_known
 returns c =
     let z : to_z w64 (of_z w64 c.args.xp) ≡ c.args.xp = search rules in
-    size_tested z (le_trans c.requires.1 (lit≤ tt)) c.size.ensures (within_rows _ _) c.within.ensures
+    size_tested z (le_trans c.requires (lit≤ tt)) c.size.ensures (within_rows _ _) c.within.ensures
 
 pub size-requires : goal.size-requires
 size-requires c =
     let z : to_z w64 (of_z w64 c.args.xp) ≡ c.args.xp = search rules in
-    size_small z (le_trans c.requires.1 (lit≤ tt))
+    size_small z (le_trans c.requires (lit≤ tt))
 
 pub overflow_cast-size : goal.overflow_cast-size
 overflow_cast-size c =
     let z : to_z w64 (of_z w64 c.args.xp) ≡ c.args.xp = search rules in
-    size_signed z (le_trans c.requires.1 (lit≤ tt)) c.size.ensures
-
-pub within-requires : goal.within-requires
-within-requires c = search easting-placed
+    size_signed z (le_trans c.requires (lit≤ tt)) c.size.ensures

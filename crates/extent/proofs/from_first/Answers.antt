@@ -8,11 +8,11 @@ use Rattle.extent.proofs.from_first.Goals as goal
 pub returns : goal.returns
 unfolding from_first
 returns c =
-    (difference (wide c.ranges.latitude) (first_held _ c.requires.0 _ c.requires.1) tt).is
+    (difference (wide c.ranges.latitude) (first_held _ c.args.sheet.known.passes _ c.args.sheet.measured) tt).is
 
 pub overflow_cast-result : goal.overflow_cast-result
 overflow_cast-result c = wide_fits c.ranges.latitude
 
 pub overflow_sub-result : goal.overflow_sub-result
 overflow_sub-result c =
-    difference_fits (wide c.ranges.latitude) (first_held _ c.requires.0 _ c.requires.1) tt
+    difference_fits (wide c.ranges.latitude) (first_held _ c.args.sheet.known.passes _ c.args.sheet.measured) tt

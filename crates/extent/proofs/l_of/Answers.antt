@@ -8,11 +8,11 @@ use Rattle.extent.proofs.l_of.Goals as goal
 pub returns : goal.returns
 unfolding l_of
 returns c =
-    answered (difference (central_held _ c.requires.0 _ c.requires.1) (wide c.ranges.longitude) tt)
+    answered (difference (central_held _ c.args.sheet.known.passes _ c.args.sheet.measured) (wide c.ranges.longitude) tt)
 
 pub overflow_cast-result : goal.overflow_cast-result
 overflow_cast-result c = wide_fits c.ranges.longitude
 
 pub overflow_sub-result : goal.overflow_sub-result
 overflow_sub-result c =
-    difference_fits (central_held _ c.requires.0 _ c.requires.1) (wide c.ranges.longitude) tt
+    difference_fits (central_held _ c.args.sheet.known.passes _ c.args.sheet.measured) (wide c.ranges.longitude) tt

@@ -8,11 +8,11 @@ use borrow.Author.Rules.{rules}
 use Rattle.extent.proofs.latitude_known.Goals as goal
 
 pub within_rows-requires : goal.within_rows-requires
-within_rows-requires c = search (count_one, minutes_few, rules)
+within_rows-requires c = let known = c.args.sheet.known in search (count_one, minutes_few, rules)
 
 pub returns : goal.returns
 unfolding latitude_known
 returns c =
     let t : to_z w64 (of_z w64 c.from_first.result) ≡ c.from_first.result = search rules in
     let north : to_z w32 (of_z w32 c.args.latitude) ≡ c.args.latitude = search rules in
-    minutes_is _ _ c.requires.0 _ _ _ (t ∙ c.from_first.ensures ∙ ap (from_first _) north) c.within_rows.ensures
+    minutes_is _ _ c.args.sheet.known _ _ _ (t ∙ c.from_first.ensures ∙ ap (from_first _) north) c.within_rows.ensures

@@ -1,7 +1,6 @@
 -- `extent::northing_known` meets its contract. Assumes nothing.
 use mathlib.Core.Path.{◌∙◌}
 use Rattle.extent.specs.Extent.{northing_known}
-use Rattle.sheet_check.proofs.Known.{northing-placed}
 use Rattle.extent.proofs.Points.{wide, wide_fits}
 use Rattle.extent.proofs.northing_known.Goals as goal
 
@@ -11,6 +10,3 @@ returns c = c.within.ensures ∙ rw (wide c.ranges.y).is
 
 pub overflow_cast-y : goal.overflow_cast-y
 overflow_cast-y c = wide_fits c.ranges.y
-
-pub within-requires : goal.within-requires
-within-requires c = search northing-placed

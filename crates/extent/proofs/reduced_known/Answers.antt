@@ -17,13 +17,13 @@ returns c =
     let low : to_z w64 (of_z w64 c.y0_of.result) ≡ c.y0_of.result = search rules in
     let high : to_z w64 (of_z w64 c.y0_of-2.result) ≡ c.y0_of-2.result = search rules in
     rw (z, low, high)
-    (from_first_to_last (y0_of _) c.args.reduced c.y0_of.ensures.0 c.y0_of-2.ensures.0 (count_is _ _ c.requires))
+    (from_first_to_last (y0_of _) c.args.reduced c.y0_of.ensures.0 c.y0_of-2.ensures.0 (count_is _ _ c.args.sheet.known))
 
 pub y0_of-requires : goal.y0_of-requires
-y0_of-requires c = search (latitude-some, rules)
+y0_of-requires c = let known = c.args.sheet.known in search (latitude-some, rules)
 
-pub overflow_sub-p : goal.overflow_sub-p
-overflow_sub-p c = search count_one
+pub overflow_sub-sheet : goal.overflow_sub-sheet
+overflow_sub-sheet c = let known = c.args.sheet.known in search count_one
 
 pub y0_of-requires-2 : goal.y0_of-requires-2
-y0_of-requires-2 c = search (last_there, rules)
+y0_of-requires-2 c = let known = c.args.sheet.known in search (last_there, rules)

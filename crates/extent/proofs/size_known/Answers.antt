@@ -3,7 +3,6 @@ use mathlib.Core.Path.{◌≡◌, ◌∙◌}
 use mir.Syntax.{w64}
 use mir.Val.{to_z, of_z}
 use Rattle.extent.specs.Extent.{size_known}
-use Rattle.sheet_check.proofs.Known.{longitude-placed}
 use borrow.Author.Rules.{rules}
 use Rattle.extent.proofs.size_known.Goals as goal
 
@@ -12,6 +11,3 @@ unfolding size_known
 returns c =
     let z : to_z w64 (of_z w64 c.args.size) ≡ c.args.size = search rules in
     c.within.ensures ∙ rw z
-
-pub within-requires : goal.within-requires
-within-requires c = search longitude-placed

@@ -1,5 +1,5 @@
 -- `tables::pass` meets its contract. Assumes nothing.
-use mathlib.Core.Path.{◌≡◌, sym, ap, ◌∙◌}
+use mathlib.Core.Path.{◌≡◌}
 use Rattle.sheet_check.specs.Check.{check_of}
 use Rattle.sheet_check.proofs.Known.{sheet_long}
 use borrow.Author.Rules.{rules}
