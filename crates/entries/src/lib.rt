@@ -214,9 +214,7 @@ fn is_named(s: &[u8], f: Form, kind: usize, n: usize) -> bool
     requires { HasContents f s.now × (n ≤ f.kinds) }
     ensures { result ≡ named f s.now kind n }
 {
-    let mut e = n;
-    while 0 < e {
-        e -= 1;
+    for e in (0..n).rev() {
         if kind_at(s, f, e) == kind {
             return true;
         }
@@ -237,9 +235,7 @@ fn entry_of(s: &[u8], f: Form, kind: usize) -> usize
     requires { HasContents f s.now }
     ensures { (result ≡ entry_of f s.now kind f.kinds) × (result < f.kinds) }
 {
-    let mut e = f.kinds;
-    while 0 < e {
-        e -= 1;
+    for e in (0..f.kinds).rev() {
         if kind_at(s, f, e) == kind {
             return e;
         }

@@ -85,7 +85,7 @@ pub fn last_latitude_row(row: Row) -> u32
     if !row_in_range(row) {
         return 6;
     }
-    if !rules::same_differences(row.differences, rules::no_differences()) {
+    if row.differences != rules::no_differences() {
         return 9; // a difference in the last row
     }
     0

@@ -4,6 +4,7 @@ use mathlib.Core.Bool.{Bool, true, false, not, cond}
 use Prim.Native.Nat.{ℕ, ◌<◌, ◌≤◌}
 use lib.Dec.{eqb}
 use borrow.Author.Tests.{lt-ltb, le-ltb, eq-eqb, ne_eqb, eqb-true, eqb-false}
+use Rattle.std.proofs.lemmas.Bool.{not-true, not-false}
 use Rattle.refusals.specs.Ladder.{need, where_below, where_is, or_else}
 
 -- `if !f { return x; }`: the test failed, or it passed and y is the rest's answer
@@ -24,6 +25,15 @@ module _ {A : Type 0} (t f : Bool) where
   pub go_past : (x y rest : A) → f ≡ t → f ≡ false → y ≡ rest → y ≡ need (not t) x rest
   unfolding need
   go_past x y rest h e r = cc
+
+  -- `if f { return x; }`, where f is that the test failed, as `x != y` is
+  pub stop_unless : (x rest : A) → f ≡ not t → f ≡ true → x ≡ need t x rest
+  unfolding need
+  stop_unless x rest h e = let failed : t ≡ false = not-true t (sym h ∙ e) in cc
+
+  pub go_unless : (x y rest : A) → f ≡ not t → f ≡ false → y ≡ rest → y ≡ need t x rest
+  unfolding need
+  go_unless x y rest h e r = let passed : t ≡ true = not-false t (sym h ∙ e) in cc
 
 -- past `if !f { .. }` the test holds
 pub kept : (t f : Bool) → f ≡ t → f ≡ true → t ≡ true

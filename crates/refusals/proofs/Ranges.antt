@@ -8,6 +8,9 @@ use borrow.Author.Tests.{eq-eqb, eqb-true, eqb-false}
 use mir.Syntax.{Width}
 use mir.Val.{SFits, to_z, of_z}
 use mir.Facts.{to_z-of_z}
+use native.Mathlib.Omega.{arith}
+use Rattle.std.specs.Ordering.{int_eq}
+use Rattle.std.proofs.lemmas.Bool.Decides.{nat_tests}
 use Rattle.refusals.specs.Tests.{in_range, same_as}
 use Rattle.rounding.proofs.Tests.{both}
 
@@ -28,6 +31,14 @@ pub same_self : (x : ℤ) → same_as x x ≡ true
 unfolding same_as
 same_self (pos x) = eq-eqb x x refl
 same_self (negsuc x) = eq-eqb x x refl
+
+-- `==` of two figures in a derived comparison
+pub eq_same : (x y : ℤ) → int_eq x y ≡ same_as x y
+unfolding same_as
+eq_same (pos x) (pos y) = grind (arith, nat_tests)
+eq_same (pos x) (negsuc y) = refl
+eq_same (negsuc x) (pos y) = refl
+eq_same (negsuc x) (negsuc y) = grind (arith, nat_tests)
 
 -- the machine's `x == y`, which compares bits
 pub same_bits : (w : Width) (x y : ℤ) → SFits w x → SFits w y → eqb (of_z w x) (of_z w y) ≡ same_as x y

@@ -15,7 +15,7 @@ pub struct Fault {
 pub fn in_range(least: i32, x: i32, most: i32) -> bool
     ensures { result ≡ in_range least x most }
 {
-    (least <= x) & (x <= most)
+    (least..=most).contains(&x)
 }
 
 // Whether x is y.

@@ -1,6 +1,6 @@
 -- What the rules tell of figures that pass them, in sizes: a figure that may not be negative is its size. Assumes nothing.
 use mathlib.Core.Path.{◌≡◌, refl, sym, ap, ◌∙◌, subst}
-use mathlib.Core.Bool.{true}
+use mathlib.Core.Bool.{true, ◌&&◌}
 use Prim.Native.Nat.{ℕ, suc, ◌+◌, ◌-◌, ◌≤◌}
 use native.Mathlib.Nat.{le_trans}
 use native.Mathlib.Decide.{dec_le}
@@ -13,11 +13,13 @@ use Rattle.rounding.specs.Ranges.{most_change}
 use Rattle.rounding.proofs.Sizes.{Size, within_size, pos_minus, sub_ℕ_le, sub_ℕ_lt}
 use Rattle.rules.specs.declared.Figures.{Figures}
 use Rattle.rules.specs.declared.Differences.{Differences}
-use Rattle.refusals.specs.Tests.{in_range}
+use Rattle.std.proofs.Math.Bool.{and_assoc}
+use Rattle.std.specs.Ordering.{int_eq}
+use Rattle.refusals.specs.Tests.{in_range, same_as}
 use Rattle.rules.specs.Limits.{rises}
 use Rattle.rules.specs.Latitude.{figures_in_range, least_rise, most_rise, within_bounds, same_differences}
 use Rattle.rounding.proofs.Tests.{both}
-use Rattle.refusals.proofs.Ranges.{range_true, same_true}
+use Rattle.refusals.proofs.Ranges.{range_true, same_true, eq_same}
 
 -- ---- one figure
 pub range_size : (least : ℕ) (x : ℤ) (most : ℕ) → in_range (pos least) x (pos most) ≡ true → Size least x most
@@ -83,6 +85,17 @@ figures_bounded f next x y e =
       v = rises-most _ _ _ q.1;
       a = rises-most _ _ _ p.1;
     }
+
+-- ---- the derived `==`: of differences, and of figures
+pub eq_differences : (e d : Differences) → (int_eq e.y d.y && (int_eq e.h d.h && int_eq e.v d.v)) ≡ same_differences e d
+unfolding same_differences
+eq_differences e d = rw (eq_same e.y d.y, eq_same e.h d.h, eq_same e.v d.v) (sym (and_assoc (same_as e.y d.y) (same_as e.h d.h) (same_as e.v d.v)))
+
+pub eq_figures : (f g : Figures) → (int_eq f.y0 g.y0 && (int_eq f.h g.h && (int_eq f.v g.v && int_eq f.a g.a))) ≡ (same_as f.y0 g.y0 && same_as f.h g.h && same_as f.v g.v && same_as f.a g.a)
+eq_figures f g =
+    rw (eq_same f.y0 g.y0, eq_same f.h g.h, eq_same f.v g.v, eq_same f.a g.a)
+    (sym (and_assoc (same_as f.y0 g.y0 && same_as f.h g.h) (same_as f.v g.v) (same_as f.a g.a)
+    ∙ and_assoc (same_as f.y0 g.y0) (same_as f.h g.h) (same_as f.v g.v && same_as f.a g.a)))
 
 -- ---- its differences
 pub differences_are : (e d : Differences) → same_differences e d ≡ true → e ≡ d

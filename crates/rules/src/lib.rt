@@ -9,7 +9,7 @@ ghost use Rattle.rules.specs.Limits.{rises};
 ghost use Rattle.rules.specs.Latitude.{figures_in_range, within_bounds, differences_of, no_differences, same_differences};
 
 // The figures of a latitude row that a correction gives: y0 (0.01 ft), H (0.000001), V (0.000001), a (0.001).
-#[derive(Clone, Copy)]
+#[derive(Clone, Copy, PartialEq, Eq)]
 pub struct Figures {
     pub y0: i32,
     pub h: i32,
@@ -18,7 +18,7 @@ pub struct Figures {
 }
 
 // The differences of a latitude row: Δy (0.00001), ΔH (10⁻⁸), ΔV (10⁻⁸).
-#[derive(Clone, Copy)]
+#[derive(Clone, Copy, PartialEq, Eq)]
 pub struct Differences {
     pub y: i32,
     pub h: i32,
@@ -109,11 +109,4 @@ pub fn no_differences() -> Differences
     ensures { result ≡ no_differences }
 {
     Differences { y: 0, h: 0, v: 0 }
-}
-
-// Whether the differences e are those of d.
-pub fn same_differences(e: Differences, d: Differences) -> bool
-    ensures { result ≡ same_differences e d }
-{
-    refusals::same_as(e.y, d.y) & refusals::same_as(e.h, d.h) & refusals::same_as(e.v, d.v)
 }

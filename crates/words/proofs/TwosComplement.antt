@@ -1,14 +1,14 @@
 -- The signed and the unsigned reading of one word: each from the other, and a test of range or of equality on one as a test on the other.
 -- Assumes nothing.
-use mathlib.Core.Path.{◌≡◌, refl, sym, ap, subst, ◌∙◌}
+use mathlib.Core.Path.{◌≡◌, refl, sym, ap, ◌∙◌}
 use mathlib.Core.Bool.{Bool, true, false, ◌&&◌}
-use Prim.Native.Nat.{ℕ, suc, ◌+◌, ◌-◌, ◌%◌, ◌≤◌, ◌<◌, zero-le}
+use Prim.Native.Nat.{ℕ, suc, ◌+◌, ◌-◌, ◌%◌, ◌≤◌, ◌<◌}
 use native.Mathlib.Decide.{dec_lt}
 use native.Mathlib.Omega.{arith}
-use lib.Dec.{T, leb}
+use lib.Dec.{leb}
 use borrow.Author.Tests.{lt-ltb, le-ltb, lt-leb}
-use lib.IntN.{ℤ, pos, negsuc, nat_abs, ◌+ℤ◌, ◌-ℤ◌}
-use lib.Signed.{lt_z, le_z}
+use lib.IntN.{ℤ, pos, negsuc, nat_abs, ◌-ℤ◌}
+use lib.Signed.{le_z}
 use mir.Syntax.{w32}
 use mir.Val.{SFits, to_z, of_z}
 use mir.Facts.{to_z-of_z, Fits-of_z, sfits_to_z}
@@ -48,17 +48,6 @@ pub signed32_below : {n : ℕ} → 2_147_483_648 ≤ n → n < 4_294_967_296 →
 signed32_below {n} h k =
     let e : 4_294_967_296 - suc n ≡ 4_294_967_295 - n = omega arith in
     signed32_high h ∙ sub_ℕ_lt k ∙ ap negsuc e
-
--- ---- bits, as a test of the sign shows them
-pub bits32_below : (v : ℤ) → SFits w32 v → lt_z v (pos 0) ≡ true → v +ℤ pos 4_294_967_296 ≡ pos (bits32 v)
-unfolding bits32
-bits32_below (pos n) h e = absurd (subst T (sym e ∙ le-ltb n 0 zero-le) tt)
-bits32_below (negsuc n) h e = let k : n < 2_147_483_648 = h.sfits in sub_ℕ_le (omega arith)
-
-pub bits32-not_below : (v : ℤ) → lt_z v (pos 0) ≡ false → v ≡ pos (bits32 v)
-unfolding bits32
-bits32-not_below (pos n) e = refl
-bits32-not_below (negsuc n) e = absurd (subst T e tt)
 
 -- ---- a figure that may not be negative is tested without its sign
 and-false : (a : Bool) → false ≡ (a && false)

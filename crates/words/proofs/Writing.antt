@@ -1,12 +1,14 @@
 -- What was written is read: of a word that was put, its bits; of every other word and byte, what was there. Assumes nothing.
-use mathlib.Core.Path.{◌≡◌, ap, ◌∙◌}
-use mathlib.Core.List.{List}
+use mathlib.Core.Path.{◌≡◌, refl, ap, ◌∙◌}
+use mathlib.Core.List.{List, [], ◌∷◌, ◌++◌}
 use mathlib.Core.Logic.{◌≢◌}
-use Prim.Native.Nat.{ℕ, ◌+◌, ◌*◌, ◌/◌, ◌%◌, ◌≤◌, ◌<◌}
+use Prim.Native.Nat.{ℕ, zero, suc, ◌+◌, ◌-◌, ◌*◌, ◌/◌, ◌%◌, ◌≤◌, ◌<◌}
 use native.Mathlib.Omega.{arith}
 use lib.IntN.{ℤ}
-use lib.ListN.{length, get_or, set, length-set}
-use lib.Seq.{get_or-set_same, get_or-set_other}
+use borrow.Rule.Slice.PartMut.{put_mid}
+use Rattle.std.specs.Int.{to_be_bytes}
+use lib.ListN.{length, take, drop, get_or, set, length-set}
+use lib.Seq.{drop-drop, get_or-set_same, get_or-set_other}
 use mir.Syntax.{w32}
 use mir.Val.{SFits}
 use Rattle.words.specs.Words.{unsigned_at, signed32, word_at, bits32, put_bits, put_word}
@@ -45,7 +47,27 @@ module _ (s : List ℕ) (p a b c d : ℕ) where
     fourth : get_or (four s p a b c d) (p + 3) 0 ≡ d
     fourth = let k : p + 3 < length (set (set (set s p a) (p + 1) b) (p + 2) c) = simp length-set (omega arith) in rw get_or-set_same
 
+-- as a write of four bytes to their place sets them
+four_put : (s : List ℕ) (p a b c d : ℕ) → p + 4 ≤ length s → take p s ++ (a ∷ b ∷ c ∷ d ∷ drop (suc (suc (suc (suc p)))) s) ≡ set (set (set (set s p a) (suc p) b) (suc (suc p)) c) (suc (suc (suc p))) d
+four_put (x ∷ y ∷ z ∷ w ∷ s) zero a b c d h = refl
+four_put (x ∷ y ∷ z ∷ []) zero a b c d h = absurd (omega arith)
+four_put (x ∷ y ∷ []) zero a b c d h = absurd (omega arith)
+four_put (x ∷ []) zero a b c d h = absurd (omega arith)
+four_put [] p a b c d h = absurd (omega arith)
+four_put (x ∷ s) (suc p) a b c d h = ap (λ (t : List ℕ). x ∷ t) (four_put s p a b c d (omega arith))
+
 module _ (s : List ℕ) (i n : ℕ) where
+  pub bytes_put : 4 * i + 4 ≤ length s → n < 4_294_967_296 → put_mid (4 * i) (4 * i + 4 - 4 * i) s (to_be_bytes w32 n) ≡ put_bits s i n
+  unfolding put_bits
+  bytes_put h k =
+      let four : 4 * i + 4 - 4 * i ≡ 4 = omega arith in
+      let highest : n / 16_777_216 % 256 ≡ n / 16_777_216 = omega arith in
+      let one : 4 * i + 1 ≡ suc (4 * i) = omega arith in
+      let two : 4 * i + 2 ≡ suc (suc (4 * i)) = omega arith in
+      let three : 4 * i + 3 ≡ suc (suc (suc (4 * i))) = omega arith in
+      let end : 4 * i + 4 ≡ suc (suc (suc (suc (4 * i)))) = omega arith in
+      rw (four, drop-drop, highest, one, two, three, end) (four_put s (4 * i) (n / 16_777_216) (n / 65_536 % 256) (n / 256 % 256) (n % 256) h)
+
   pub unsigned_at_put : 4 * i + 4 ≤ length s → n < 4_294_967_296 → unsigned_at (put_bits s i n) i ≡ n
   unfolding unsigned_at put_bits
   unsigned_at_put h k = rw (first, second, third, fourth) (omega arith)

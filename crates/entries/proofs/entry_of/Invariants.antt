@@ -6,6 +6,3 @@ use Rattle.entries.proofs.entry_of.Given as goal
 
 abbrev pub invariant-loop-e : goal.invariant-loop-e
 invariant-loop-e l = (l.e ≤ l.f.kinds) × (entry_of l.f l.s l.kind l.f.kinds ≡ entry_of l.f l.s l.kind l.e)
-
-abbrev pub decreases-loop-e : goal.decreases-loop-e
-decreases-loop-e l = l.e

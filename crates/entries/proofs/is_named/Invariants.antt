@@ -6,6 +6,3 @@ use Rattle.entries.proofs.is_named.Given as goal
 
 abbrev pub invariant-loop-e : goal.invariant-loop-e
 invariant-loop-e l = (l.e ≤ l.f.kinds) × (named l.f l.s l.kind l.n ≡ named l.f l.s l.kind l.e)
-
-abbrev pub decreases-loop-e : goal.decreases-loop-e
-decreases-loop-e l = l.e
