@@ -82,14 +82,12 @@ fn entries(s: &[u8], f: Form) -> Fault
     ensures { result ≡ first_fault (entry_fault f s.now) f.kinds 0 }
 {
     let mut due = entries::first_body(f);
-    let mut e = 0;
-    while e < f.kinds {
+    for e in 0..f.kinds {
         let number = entry_fault(s, f, e, due);
         if number != 0 {
             return Fault { number, place: e };
         }
         due += entries::span_at(s, f, e);
-        e += 1;
     }
     Fault {
         number: 0,

@@ -16,10 +16,10 @@ returns c = search end
 
 pub loop-e-init : goal.loop-e-init
 unfolding due_at
-loop-e-init c = (omega arith, search rules, omega arith, rw sub-zero)
+loop-e-init c = (search rules, omega arith, rw sub-zero)
 
 pub span_at-due-requires : goal.span_at-due-requires
 span_at-due-requires c = search (fault-known, rules)
 
 pub loop-e-preserved : goal.loop-e-preserved
-loop-e-preserved c = (omega arith, search due_next, omega arith, search on)
+loop-e-preserved c = (search due_next, omega arith, search on)

@@ -1,4 +1,4 @@
--- The invariant and the measure of `contents::entries`'s loop.
+-- The invariant of `contents::entries`'s loop.
 use mathlib.Core.Path.{◌≡◌}
 use Prim.Native.Nat.{◌+◌, ◌*◌, ◌-◌, ◌≤◌}
 use Rattle.refusals.specs.Faults.{first_fault}
@@ -9,8 +9,5 @@ use Rattle.contents.proofs.entries.Given as goal
 
 abbrev pub invariant-loop-e : goal.invariant-loop-e
 invariant-loop-e l =
-    (l.e ≤ l.f.kinds) × (l.due ≡ due_at l.f l.s l.e) × (l.due ≤ most_first + l.e * (4_294_967_296 * most_width))
+    (l.due ≡ due_at l.f l.s l.e) × (l.due ≤ most_first + l.e * (4_294_967_296 * most_width))
     × (first_fault (entry_fault l.f l.s) l.f.kinds 0 ≡ first_fault (entry_fault l.f l.s) (l.f.kinds - l.e) l.e)
-
-abbrev pub decreases-loop-e : goal.decreases-loop-e
-decreases-loop-e l = l.f.kinds - l.e

@@ -1,4 +1,4 @@
--- The invariant and the measure of `entries::entry_of`'s loop.
+-- The invariant of `entries::entry_of`'s loop.
 use mathlib.Core.Path.{◌≡◌}
 use Prim.Native.Nat.{◌≤◌}
 use Rattle.entries.specs.Entries.{entry_of}

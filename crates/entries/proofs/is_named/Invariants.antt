@@ -1,4 +1,4 @@
--- The invariant and the measure of `entries::is_named`'s loop.
+-- The invariant of `entries::is_named`'s loop.
 use mathlib.Core.Path.{◌≡◌}
 use Prim.Native.Nat.{◌≤◌}
 use Rattle.entries.specs.Entries.{named}
