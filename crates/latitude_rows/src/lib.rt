@@ -2,9 +2,11 @@
 #![tactic(auto)]
 
 ghost use Rattle.std.specs.Prelude.{◌≡◌, ◌+◌, ◌*◌, ◌≤◌, length};
+ghost use Rattle.refusals.specs.Numbers.{number};
 ghost use Rattle.entries.specs.Layout.{latitude, row_bytes};
 ghost use Rattle.latitude_rows.specs.Rows.{figures_at, differences_at, row_at, row_in_range, pair_fault, last_fault};
 
+use refusals::Refusal;
 use rules::{Differences, Figures};
 
 // A latitude row: its eight words.
@@ -59,34 +61,34 @@ fn row_in_range(row: Row) -> bool
     refusals::in_range(0, row.minute, 5_400) & rules::figures_in_range(row.figures)
 }
 
-// The number of the fault of a latitude row that another follows.
-pub fn latitude_row(row: Row, next: Row) -> u32
-    ensures { result ≡ pair_fault row next }
+// The fault of a latitude row that another follows.
+pub fn latitude_row(row: Row, next: Row) -> Result<(), Refusal>
+    ensures { number result ≡ pair_fault row next }
 {
     if !row_in_range(row) {
-        return 6;
+        return Err(Refusal::Range);
     }
     if !rules::rises(row.minute, next.minute, 1, 1) {
-        return 7;
+        return Err(Refusal::Minute);
     }
     if !rules::within_bounds(row.figures, next.figures) {
-        return 8;
+        return Err(Refusal::Bound);
     }
     if !rules::are_differences(row.differences, row.figures, next.figures) {
-        return 9;
+        return Err(Refusal::Difference);
     }
-    0
+    Ok(())
 }
 
-// The number of the fault of the last latitude row.
-pub fn last_latitude_row(row: Row) -> u32
-    ensures { result ≡ last_fault row }
+// The fault of the last latitude row.
+pub fn last_latitude_row(row: Row) -> Result<(), Refusal>
+    ensures { number result ≡ last_fault row }
 {
     if !row_in_range(row) {
-        return 6;
+        return Err(Refusal::Range);
     }
     if row.differences != rules::no_differences() {
-        return 9; // a difference in the last row
+        return Err(Refusal::Difference); // a difference in the last row
     }
-    0
+    Ok(())
 }

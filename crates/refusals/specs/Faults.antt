@@ -1,8 +1,11 @@
 -- The first fault of a run of places, which are the rows of a body or the entries of the contents, in rising order.
 use Rattle.std.specs.Prelude.{cond, ℕ, zero, suc, eqb}
-use Rattle.refusals.specs.declared.Fault.{Fault}
 
--- A fault's number and its place.
+-- A fault's number, and the place that has it: a row, or an entry, counted from 0. No fault is 0 0.
+pub record Fault : Type 0 where
+  pub number : ℕ
+  pub place : ℕ
+
 abbrev pub fault : ℕ → ℕ → Fault
 fault number place = record { number = number; place = place }
 

@@ -2,8 +2,11 @@
 #![tactic(auto)]
 
 ghost use Rattle.std.specs.Prelude.{◌≡◌, ◌+◌, ◌*◌, ◌≤◌, length};
+ghost use Rattle.refusals.specs.Numbers.{number};
 ghost use Rattle.entries.specs.Layout.{zone, longitude, northing, easting, scale, row_bytes};
 ghost use Rattle.small_rows.specs.SmallRows.{zone_at, longitude_at, northing_at, easting_at, scale_at, zero_where, zone_row_fault, longitude_row_fault, northing_row_fault, easting_row_fault, scale_row_fault};
+
+use refusals::Refusal;
 
 // A zone row: central meridian and false easting.
 #[derive(Clone, Copy)]
@@ -82,75 +85,80 @@ fn zero_where(first: bool, x: i32) -> bool
     !first | refusals::in_range(0, x, 0)
 }
 
-// The number of the fault of a zone row.
-pub fn zone_row(row: ZoneRow) -> u32
-    ensures { result ≡ zone_row_fault row }
+// The fault of a zone row.
+pub fn zone_row(row: ZoneRow) -> Result<(), Refusal>
+    ensures { number result ≡ zone_row_fault row }
 {
     if !refusals::in_range(6_000_000, row.central_meridian, 642_000_000) {
-        return 6;
+        return Err(Refusal::Range);
     }
     if !refusals::in_range(0, row.false_easting, 100_000_000) {
-        return 6;
+        return Err(Refusal::Range);
     }
-    0
+    Ok(())
 }
 
-// The number of the fault of a longitude row. first and last say whether it is the first of its body, or the last; where it is the last, next is not looked at.
-pub fn longitude_row(row: LongitudeRow, next: LongitudeRow, first: bool, last: bool) -> u32
-    ensures { result ≡ longitude_row_fault row next first last }
+// The fault of a longitude row. first and last say whether it is the first of its body, or the last; where it is the last, next is not looked at.
+pub fn longitude_row(
+    row: LongitudeRow,
+    next: LongitudeRow,
+    first: bool,
+    last: bool,
+) -> Result<(), Refusal>
+    ensures { number result ≡ longitude_row_fault row next first last }
 {
     let b = row.b;
     let c = row.c;
     if !refusals::in_range(-20_000, b, 20_000) {
-        return 6;
+        return Err(Refusal::Range);
     }
     if !refusals::in_range(-2_000, c, 2_000) {
-        return 6;
+        return Err(Refusal::Range);
     }
     if !zero_where(first, b) {
-        return 6;
+        return Err(Refusal::Range);
     }
     if !zero_where(first, c) {
-        return 6;
+        return Err(Refusal::Range);
     }
     if !(last | rules::rises(b, next.b, -1_000, 1_000)) {
-        return 8;
+        return Err(Refusal::Bound);
     }
-    0
+    Ok(())
 }
 
-// The number of the fault of a northing row.
-pub fn northing_row(row: NorthingRow) -> u32
-    ensures { result ≡ northing_row_fault row }
+// The fault of a northing row.
+pub fn northing_row(row: NorthingRow) -> Result<(), Refusal>
+    ensures { number result ≡ northing_row_fault row }
 {
     if !refusals::in_range(0, row.p, 1_000_000) {
-        return 6;
+        return Err(Refusal::Range);
     }
     if !refusals::in_range(0, row.m, 1_000_000) {
-        return 6;
+        return Err(Refusal::Range);
     }
-    0
+    Ok(())
 }
 
-// The number of the fault of an easting row: d, and whether it is the first.
-pub fn easting_row(d: i32, first: bool) -> u32
-    ensures { result ≡ easting_row_fault d first }
+// The fault of an easting row: d, and whether it is the first.
+pub fn easting_row(d: i32, first: bool) -> Result<(), Refusal>
+    ensures { number result ≡ easting_row_fault d first }
 {
     if !refusals::in_range(-100, d, 100) {
-        return 6;
+        return Err(Refusal::Range);
     }
     if !zero_where(first, d) {
-        return 6;
+        return Err(Refusal::Range);
     }
-    0
+    Ok(())
 }
 
-// The number of the fault of a scale row: k.
-pub fn scale_row(k: i32) -> u32
-    ensures { result ≡ scale_row_fault k }
+// The fault of a scale row: k.
+pub fn scale_row(k: i32) -> Result<(), Refusal>
+    ensures { number result ≡ scale_row_fault k }
 {
     if !refusals::in_range(9_990_000, k, 10_010_000) {
-        return 6;
+        return Err(Refusal::Range);
     }
-    0
+    Ok(())
 }
