@@ -50,13 +50,11 @@ fn table(kind: usize, b: &[u8], n: usize) -> Fault
     requires { (1 ≤ kind) × (kind ≤ last_kind) × (kind ≡ latitude → ⊥) × (4 * (n * width_of kind) ≤ length b.now) }
     ensures { result ≡ first_fault (row_fault kind b.now n) n 0 }
 {
-    let mut i = 0;
-    while i < n {
+    for i in 0..n {
         let number = row_fault(kind, b, n, i);
         if number != 0 {
             return Fault { number, place: i };
         }
-        i += 1;
     }
     Fault {
         number: 0,
@@ -70,19 +68,20 @@ fn latitude(b: &[u8], n: usize) -> Fault
     ensures { result ≡ first_fault (latitude_fault b.now n) n 0 }
 {
     let mut row = latitude_rows::row_at(b, 0);
-    let mut i = 0;
-    while i + 1 < n {
+    for i in 0..n - 1 {
         let next = latitude_rows::row_at(b, i + 1);
         let number = latitude_rows::latitude_row(row, next);
         if number != 0 {
             return Fault { number, place: i };
         }
         row = next;
-        i += 1;
     }
     let number = latitude_rows::last_latitude_row(row);
     if number != 0 {
-        return Fault { number, place: i };
+        return Fault {
+            number,
+            place: n - 1,
+        };
     }
     Fault {
         number: 0,
@@ -124,15 +123,13 @@ pub fn check(sheet: &[u8]) -> Verdict
     if number != 0 {
         return c;
     }
-    let mut kind = entries::ZONE;
-    while kind <= entries::LAST_KIND {
+    for kind in entries::ZONE..=entries::LAST_KIND {
         let f = body_of(sheet, kind);
         let number = f.number;
         let row = f.place;
         if number != 0 {
             return Verdict { number, kind, row };
         }
-        kind += 1;
     }
     Verdict {
         number: 0,

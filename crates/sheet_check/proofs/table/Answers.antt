@@ -1,5 +1,4 @@
 -- `sheet_check::table` meets its contract. Assumes nothing.
-use native.Mathlib.Omega.{arith}
 use native.Mathlib.Nat.{sub-zero}
 use Rattle.refusals.proofs.FirstFault.{on, here, end}
 use Rattle.sheet_check.proofs.table.Goals as goal
@@ -11,7 +10,7 @@ pub returns : goal.returns
 returns c = search end
 
 pub loop-i-init : goal.loop-i-init
-loop-i-init c = (omega arith, rw sub-zero)
+loop-i-init c = rw sub-zero
 
 pub loop-i-preserved : goal.loop-i-preserved
-loop-i-preserved c = (omega arith, search on)
+loop-i-preserved c = search on
