@@ -1,6 +1,6 @@
 -- What a C function answers: the operation's own answer, field by field.
 use Rattle.std.specs.Prelude.{Bool, ℕ, ℤ}
-use Rattle.contents.specs.declared.Verdict.{Verdict}
+use Rattle.contents.specs.Contents.{Verdict}
 use Rattle.forward.specs.declared.Plane.{Plane}
 use Rattle.inverse.specs.declared.Geographic.{Geographic}
 use Rattle.convergence.specs.declared.Grid.{Grid}

@@ -3,12 +3,12 @@ use mathlib.Core.Path.{◌≡◌, ap}
 use mathlib.Core.List.{List}
 use Prim.Native.Nat.{ℕ, ◌≤◌}
 use native.Mathlib.Omega.{arith}
-use Rattle.refusals.specs.declared.Fault.{Fault}
+use Rattle.refusals.specs.Faults.{Fault}
 use Rattle.refusals.specs.Ladder.{or_else}
 use Rattle.refusals.specs.Faults.{first_fault}
 use Rattle.refusals.proofs.FirstFault.{place-small}
 use Rattle.refusals.proofs.Ladders.{refused, passed_on}
-use Rattle.contents.specs.declared.Verdict.{Verdict}
+use Rattle.contents.specs.Contents.{Verdict}
 use Rattle.entries.specs.declared.Form.{Form}
 use Rattle.entries.specs.Layout.{Small, most_kinds}
 use Rattle.contents.specs.Contents.{number_of, in_entries, entry_fault, contents_by}

@@ -1,21 +1,32 @@
 -- The first fault of length, word 0, the entries and the end: numbers 1 to 5.
-use Rattle.std.specs.Prelude.{Bool, not, ◌&&◌, List, ◌≡◌, ℕ, ◌+◌, ◌*◌, ◌%◌, ◌≤◌, leb, eqb, length}
-use Rattle.refusals.specs.declared.Fault.{Fault}
+use Prim.{Unit}
+use Rattle.std.specs.Prelude.{Bool, not, ◌&&◌, List, ◌≡◌, ℕ, ◌+◌, ◌*◌, ◌%◌, ◌≤◌, leb, eqb, length, Result, Ok, Err}
 use Rattle.words.specs.Words.{unsigned_at}
 use Rattle.refusals.specs.Ladder.{need, or_else}
-use Rattle.refusals.specs.Faults.{first_fault}
-use Rattle.contents.specs.declared.Verdict.{Verdict}
+use Rattle.refusals.specs.Numbers.{number_of as refusal_number}
+use Rattle.refusals.specs.Faults.{Fault, first_fault}
+use Rattle.contents.specs.declared.Refused.{Refused}
 use Rattle.entries.specs.declared.Form.{Form}
 use Rattle.entries.specs.declared.Place.{Place}
 use Rattle.entries.specs.Layout.{least_bytes, most_bytes, names_form, last_kind, least_rows, most_rows}
 use Rattle.entries.specs.Entries.{kind_at, start_at, rows_at, named, due_at, form_of, place_of}
 
 -- "The check answers number, kind, row."
+pub record Verdict : Type 0 where
+  pub number : ℕ
+  pub kind : ℕ
+  pub row : ℕ
+
 abbrev pub verdict : ℕ → ℕ → ℕ → Verdict
 verdict number kind row = record { number = number; kind = kind; row = row }
 
 abbrev pub number_of : Verdict → ℕ
 number_of v = v.number
+
+-- What code answers, as the check's number, kind and row. "A pass is 0 0 0."
+abbrev pub verdict_told : Result (Unit {0}) Refused → Verdict
+verdict_told (Ok u) = verdict 0 0 0
+verdict_told (Err r) = verdict (refusal_number r.refusal) r.kind r.row
 
 -- n is from least to most.
 unfoldable pub within : ℕ → ℕ → ℕ → Bool

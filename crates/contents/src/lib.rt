@@ -3,19 +3,20 @@
 
 ghost use Rattle.std.specs.Prelude.{◌≡◌, ◌*◌, ◌<◌, ◌≤◌, length, eqb};
 ghost use Rattle.words.specs.Words.{unsigned_at};
-ghost use Rattle.refusals.specs.Faults.{first_fault};
+ghost use Rattle.refusals.specs.Numbers.{number};
+ghost use Rattle.refusals.specs.Faults.{first_told, first_fault};
 ghost use Rattle.entries.specs.Layout.{HasContents, most_kinds, least_rows, most_rows, names_form, width_of};
 ghost use Rattle.entries.specs.Entries.{kind_at, start_at, rows_at, due_at, body_of};
-ghost use Rattle.contents.specs.Contents.{within, entry_fault, sized, ends, contents_by, contents_of, Placed};
+ghost use Rattle.contents.specs.Contents.{within, entry_fault, sized, ends, verdict_told, contents_by, contents_of, Placed};
 
 use entries::{Form, Place};
-use refusals::Fault;
+use refusals::{Found, Refusal};
 
-// The check's answer. A pass is 0 0 0. A fault of length, word 0 or contents has kind 0 and, as row, the entry's place counted from 1: 0 for length and word 0, one past the last entry
-// for the end.
+// Why a sheet does not pass: the refusal, and its kind and row. A fault of length, word 0 or contents has kind 0 and, as row, the entry's place counted from 1: 0 for length and word 0, one
+// past the last entry for the end.
 #[derive(Clone, Copy)]
-pub struct Verdict {
-    pub number: u32,
+pub struct Refused {
+    pub refusal: Refusal,
     pub kind: usize,
     pub row: usize,
 }
@@ -56,43 +57,39 @@ fn starts_at(s: &[u8], f: Form, e: usize, due: usize) -> bool
     entries::start_at(s, f, e) == due
 }
 
-// The number of entry e's fault, 0 for none; due is the word at which its body has to start.
-fn entry_fault(s: &[u8], f: Form, e: usize, due: usize) -> u32
+// Entry e's fault; due is the word at which its body has to start.
+fn entry_fault(s: &[u8], f: Form, e: usize, due: usize) -> Result<(), Refusal>
     requires { HasContents f s.now × (e < f.kinds) × (due ≡ due_at f s.now e) }
-    ensures { result ≡ entry_fault f s.now e }
+    ensures { number result ≡ entry_fault f s.now e }
 {
     if !names_kind(s, f, e) {
-        return 2;
+        return Err(Refusal::Kind);
     }
     if entries::named_before(s, f, e) {
-        return 3;
+        return Err(Refusal::Repeated);
     }
     if !rows_allowed(s, f, e) {
-        return 4;
+        return Err(Refusal::Rows);
     }
     if !starts_at(s, f, e, due) {
-        return 5;
+        return Err(Refusal::Place);
     }
-    0
+    Ok(())
 }
 
 // The first fault of the entries.
-fn entries(s: &[u8], f: Form) -> Fault
+fn entries(s: &[u8], f: Form) -> Result<(), Found>
     requires { HasContents f s.now }
-    ensures { result ≡ first_fault (entry_fault f s.now) f.kinds 0 }
+    ensures { first_told result ≡ first_fault (entry_fault f s.now) f.kinds 0 }
 {
     let mut due = entries::first_body(f);
     for e in 0..f.kinds {
-        let number = entry_fault(s, f, e, due);
-        if number != 0 {
-            return Fault { number, place: e };
+        if let Err(refusal) = entry_fault(s, f, e, due) {
+            return Err(Found { refusal, place: e });
         }
         due += entries::span_at(s, f, e);
     }
-    Fault {
-        number: 0,
-        place: 0,
-    }
+    Ok(())
 }
 
 // Whether the last entry's body ends the sheet, where no entry has a fault.
@@ -125,51 +122,40 @@ fn is_known(s: &[u8]) -> bool
     entries::names_form(entries::count_at(s, 0))
 }
 
-// The first fault of the entries of a form and the end.
-fn contents_by(s: &[u8], f: Form) -> Verdict
-    requires { HasContents f s.now }
-    ensures { result ≡ contents_by f s.now }
+// A refusal of the contents, by the entry's place counted from 1.
+fn refused(refusal: Refusal, row: usize) -> Refused
+    ensures { (result.refusal ≡ refusal) × (result.kind ≡ 0) × (result.row ≡ row) }
 {
-    let g = entries(s, f);
-    let number = g.number;
-    if number != 0 {
-        return Verdict {
-            number,
-            kind: 0,
-            row: g.place + 1,
-        };
-    }
-    if !ends_sheet(s, f) {
-        return Verdict {
-            number: 5,
-            kind: 0,
-            row: f.kinds + 1,
-        };
-    }
-    Verdict {
-        number: 0,
+    Refused {
+        refusal,
         kind: 0,
-        row: 0,
+        row,
     }
 }
 
+// The first fault of the entries of a form and the end.
+fn contents_by(s: &[u8], f: Form) -> Result<(), Refused>
+    requires { HasContents f s.now }
+    ensures { verdict_told result ≡ contents_by f s.now }
+{
+    if let Err(found) = entries(s, f) {
+        return Err(refused(found.refusal, found.place + 1));
+    }
+    if !ends_sheet(s, f) {
+        return Err(refused(Refusal::Place, f.kinds + 1));
+    }
+    Ok(())
+}
+
 // The first fault of length, word 0, the entries and the end.
-pub fn contents(s: &[u8]) -> Verdict
-    ensures { result ≡ contents_of s.now }
+pub fn contents(s: &[u8]) -> Result<(), Refused>
+    ensures { verdict_told result ≡ contents_of s.now }
 {
     if !is_sized(s) {
-        return Verdict {
-            number: 1,
-            kind: 0,
-            row: 0,
-        };
+        return Err(refused(Refusal::Length, 0));
     }
     if !is_known(s) {
-        return Verdict {
-            number: 2,
-            kind: 0,
-            row: 0,
-        };
+        return Err(refused(Refusal::Kind, 0));
     }
     contents_by(s, entries::form_of(s))
 }

@@ -13,7 +13,7 @@ use Rattle.words.specs.Parts.{put_part}
 use Rattle.refusals.proofs.Ladders.{is, is_not, refused, passed_on}
 use Rattle.words.proofs.PuttingParts.{part_back, put_back}
 use Rattle.entries.specs.declared.Place.{Place}
-use Rattle.contents.specs.declared.Verdict.{Verdict}
+use Rattle.contents.specs.Contents.{Verdict}
 use Rattle.entries.specs.Layout.{latitude, width_of, row_bytes}
 use Rattle.entries.specs.Entries.{start_of, rows_of, body_of}
 use Rattle.contents.specs.Contents.{number_of, contents_of, Placed}

@@ -1,4 +1,5 @@
 -- Laws of tests, ladders and faults. Other crates cite them.
 pub mod Ranges
 pub mod Ladders
+pub mod Numbers
 pub mod FirstFault

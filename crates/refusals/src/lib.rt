@@ -37,6 +37,13 @@ impl Refusal {
     }
 }
 
+// A fault that was found: the refusal, and the place that has it: a row, or an entry, counted from 0.
+#[derive(Clone, Copy)]
+pub struct Found {
+    pub refusal: Refusal,
+    pub place: usize,
+}
+
 // Whether x is from least to most.
 pub fn in_range(least: i32, x: i32, most: i32) -> bool
     ensures { result ≡ in_range least x most }

@@ -4,10 +4,10 @@ use mathlib.Core.List.{List}
 use Prim.Native.Nat.{ℕ, suc, ◌+◌, ◌-◌, ◌<◌, ◌≤◌}
 use native.Mathlib.Numerals.{add-one}
 use native.Mathlib.Omega.{arith}
-use Rattle.refusals.specs.declared.Fault.{Fault}
+use Rattle.refusals.specs.Faults.{Fault}
 use Rattle.refusals.specs.Ladder.{or_else}
 use Rattle.refusals.proofs.Ladders.{refused, passed_on}
-use Rattle.contents.specs.declared.Verdict.{Verdict}
+use Rattle.contents.specs.Contents.{Verdict}
 use Rattle.entries.specs.Layout.{last_kind, zone}
 use Rattle.contents.specs.Contents.{verdict, number_of, contents_of}
 use Rattle.sheet_check.specs.Check.{fault_of, in_kind, bodies_of, check_of}

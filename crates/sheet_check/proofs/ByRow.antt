@@ -8,7 +8,7 @@ use lib.Signed.{mag}
 use mir.Syntax.{w32}
 use mir.Val.{to_z, of_z, hbits}
 use Rattle.entries.specs.Layout.{zone, latitude, longitude, northing, easting, scale}
-use Rattle.refusals.specs.declared.Fault.{Fault}
+use Rattle.refusals.specs.Faults.{Fault}
 use Rattle.refusals.specs.Ladder.{where_is}
 use Rattle.refusals.specs.Faults.{first_fault}
 use Rattle.latitude_rows.specs.Rows.{latitude_fault}

@@ -4,7 +4,7 @@ use mathlib.Core.List.{List}
 use Prim.Native.Nat.{ℕ, ◌+◌, ◌*◌, ◌<◌, ◌≤◌}
 use native.Mathlib.Omega.{arith}
 use lib.ListN.{length}
-use Rattle.refusals.specs.declared.Fault.{Fault}
+use Rattle.refusals.specs.Faults.{Fault}
 use Rattle.refusals.specs.Faults.{first_fault}
 use Rattle.entries.specs.declared.Place.{Place}
 use Rattle.entries.specs.Layout.{last_kind, zone, latitude, longitude, northing, easting, scale, least_bytes, width_of, row_bytes}

@@ -1,9 +1,9 @@
 -- The check's answer: the contents first, then the bodies.
 use Rattle.std.specs.Prelude.{◌≡◌, List, ℕ, zero, suc}
-use Rattle.refusals.specs.declared.Fault.{Fault}
+use Rattle.refusals.specs.Faults.{Fault}
 use Rattle.refusals.specs.Ladder.{or_else, where_is}
 use Rattle.refusals.specs.Faults.{first_fault}
-use Rattle.contents.specs.declared.Verdict.{Verdict}
+use Rattle.contents.specs.Contents.{Verdict}
 use Rattle.entries.specs.declared.Places.{Places}
 use Rattle.entries.specs.Layout.{last_kind, zone, latitude, longitude, northing, easting}
 use Rattle.entries.specs.Entries.{rows_of, body_of, places_of}

@@ -4,7 +4,7 @@ use Rattle.rounding.specs.Nearest.{with_sign, nearest}
 use Rattle.rounding.specs.Between.{between}
 use Rattle.steps.specs.Steps.{q_of, size_of_x, rise, reduction, seconds, per_second}
 use Rattle.entries.specs.Layout.{one_minute}
-use Rattle.contents.specs.declared.Verdict.{Verdict}
+use Rattle.contents.specs.Contents.{Verdict}
 use Rattle.sheet_check.specs.Check.{check_of}
 use Rattle.tables.specs.Figures.{m_at}
 use Rattle.forward.specs.declared.Plane.{Plane}
