@@ -1,5 +1,9 @@
 -- A first fault of the entries as the check's answer, in the shape of the code's needs: f is the code's where the definition has g. Assumes nothing.
+use Prim.{Unit}
 use mathlib.Core.Path.{◌≡◌, ap}
+use Rattle.std.proofs.Common.{Result, Ok, Err}
+use Rattle.std.specs.Result.{IsErrAnd}
+use Rattle.contents.specs.declared.Refused.{Refused}
 use mathlib.Core.List.{List}
 use Prim.Native.Nat.{ℕ, ◌≤◌}
 use native.Mathlib.Omega.{arith}
@@ -11,7 +15,7 @@ use Rattle.refusals.proofs.Ladders.{refused, passed_on}
 use Rattle.contents.specs.Contents.{Verdict}
 use Rattle.entries.specs.declared.Form.{Form}
 use Rattle.entries.specs.Layout.{Small, most_kinds}
-use Rattle.contents.specs.Contents.{number_of, in_entries, entry_fault, contents_by}
+use Rattle.contents.specs.Contents.{number_of, verdict_told, in_entries, entry_fault, contents_by}
 use Rattle.entries.specs.Entries.{form_of}
 
 module _ (f g : Fault) (y : Verdict) (e : f ≡ g) where
@@ -31,3 +35,8 @@ entry_place f s g small e = rw e (omega (arith, place-small (entry_fault f s) f.
 -- the contents by the sheet's own form
 pub by_form : (s : List ℕ) (f : Form) (r : Verdict) → f ≡ form_of s → r ≡ contents_by f s → r ≡ contents_by (form_of s) s
 by_form s f r e q = rw (← e) q
+
+-- an error that `?` hands on
+pub handed_on : (r : Result (Unit {0}) Refused) (e : Refused) → IsErrAnd r (λ x. x ≡ e) → verdict_told r ≡ verdict_told (Err e)
+handed_on (Err x) e h = ap (λ y. verdict_told (Err y)) h
+handed_on (Ok _) e h = elim h [ ]

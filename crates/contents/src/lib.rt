@@ -122,27 +122,24 @@ fn is_known(s: &[u8]) -> bool
     entries::names_form(entries::count_at(s, 0))
 }
 
-// A refusal of the contents, by the entry's place counted from 1.
-fn refused(refusal: Refusal, row: usize) -> Refused
-    ensures { (result.refusal ≡ refusal) × (result.kind ≡ 0) × (result.row ≡ row) }
-{
-    Refused {
-        refusal,
-        kind: 0,
-        row,
-    }
-}
-
 // The first fault of the entries of a form and the end.
 fn contents_by(s: &[u8], f: Form) -> Result<(), Refused>
     requires { HasContents f s.now }
     ensures { verdict_told result ≡ contents_by f s.now }
 {
     if let Err(found) = entries(s, f) {
-        return Err(refused(found.refusal, found.place + 1));
+        return Err(Refused {
+            refusal: found.refusal,
+            kind: 0,
+            row: found.place + 1,
+        });
     }
     if !ends_sheet(s, f) {
-        return Err(refused(Refusal::Place, f.kinds + 1));
+        return Err(Refused {
+            refusal: Refusal::Place,
+            kind: 0,
+            row: f.kinds + 1,
+        });
     }
     Ok(())
 }
@@ -152,10 +149,18 @@ pub fn contents(s: &[u8]) -> Result<(), Refused>
     ensures { verdict_told result ≡ contents_of s.now }
 {
     if !is_sized(s) {
-        return Err(refused(Refusal::Length, 0));
+        return Err(Refused {
+            refusal: Refusal::Length,
+            kind: 0,
+            row: 0,
+        });
     }
     if !is_known(s) {
-        return Err(refused(Refusal::Kind, 0));
+        return Err(Refused {
+            refusal: Refusal::Kind,
+            kind: 0,
+            row: 0,
+        });
     }
     contents_by(s, entries::form_of(s))
 }

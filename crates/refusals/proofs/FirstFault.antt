@@ -1,6 +1,5 @@
 -- The laws of `first_fault`: those that a loop over places goes by, and that it answers 0 exactly where no place has a fault. Assumes nothing.
-use Prim.{Unit}
-use mathlib.Core.Path.{◌≡◌, refl, sym, ap, ◌∙◌}
+use mathlib.Core.Path.{◌≡◌, refl, sym, ◌∙◌}
 use mathlib.Core.Bool.{Bool, true, false, cond}
 use Prim.Native.Nat.{ℕ, zero, suc, ◌+◌, ◌-◌, ◌<◌, ◌≤◌}
 use native.Mathlib.Nat.{add-zero}
@@ -8,10 +7,6 @@ use native.Mathlib.Numerals.{add-one}
 use native.Mathlib.Omega.{arith}
 use lib.Dec.{eqb}
 use borrow.Author.Tests.{eq-eqb, ne_eqb, eqb-true, eqb-false}
-use Rattle.std.proofs.Common.{Result, Ok, Err}
-use Rattle.refusals.specs.declared.Refusal.{Refusal}
-use Rattle.refusals.specs.Numbers.{number_of, number}
-use Rattle.refusals.proofs.Numbers.{number-some}
 use Rattle.refusals.specs.Faults.{fault, first_fault}
 
 -- ---- of a loop: i places were passed, and x is what the test of place i answered
@@ -80,13 +75,3 @@ same_faults f g (suc n) k h =
     let now : f k ≡ g k = rw add-zero at (h 0 (omega arith)) in
     let rest = same_faults f g n (suc k) (λ j l. let e : k + suc j ≡ suc k + j = omega arith in rw e at (h (suc j) (omega arith))) in
     rw (now, rest)
-
--- ---- what code has found
-module _ (f : ℕ → ℕ) (n i : ℕ) (passed : first_fault f n 0 ≡ first_fault f (n - i) i) where
-  -- a refusal at place i is the first fault
-  pub found_here : {q : Result (Unit {0}) Refusal} (r : Refusal) → i < n → number q ≡ f i → q ≡ Err r → fault (number_of r) i ≡ first_fault f n 0
-  found_here r h e was = here f n i passed h (sym (ap number was) ∙ e) (number-some r)
-
-  -- place i passes
-  pub found_on : {q : Result (Unit {0}) Refusal} (u : Unit {0}) → i < n → number q ≡ f i → q ≡ Ok u → first_fault f n 0 ≡ first_fault f (n - (i + 1)) (i + 1)
-  found_on u h e was = on f n i passed h (sym (ap number was) ∙ e) refl

@@ -1,15 +1,20 @@
 -- `contents::entries` meets its contract. Assumes nothing.
+use mathlib.Core.Path.{refl}
+use Prim.Native.Nat.{◌<◌}
 use native.Mathlib.Omega.{arith}
 use borrow.Author.Rules.{rules}
 use native.Mathlib.Nat.{sub-zero}
+use Rattle.refusals.proofs.Numbers.{number-some}
 use Rattle.refusals.proofs.FirstFault.{on, here, end}
 use Rattle.entries.specs.Entries.{due_at}
 use Rattle.entries.proofs.Spans.{due_next}
 use Rattle.contents.proofs.Limits.{fault-known}
 use Rattle.contents.proofs.entries.Goals as goal
 
-pub returns-then-number-ne0 : goal.returns-then-number-ne0
-returns-then-number-ne0 c = search here
+pub returns-in-Err : goal.returns-in-Err
+returns-in-Err c =
+    let i : c.loop-e.e < c.args.f.kinds = omega arith in
+    here _ _ _ c.loop-e.invariant.2 i c.in-Err.ensures (number-some _)
 
 pub returns : goal.returns
 returns c = search end
@@ -22,4 +27,6 @@ pub span_at-due-requires : goal.span_at-due-requires
 span_at-due-requires c = search (fault-known, rules)
 
 pub loop-e-preserved : goal.loop-e-preserved
-loop-e-preserved c = (search due_next, omega arith, search on)
+loop-e-preserved c =
+    let i : c.loop-e.e < c.args.f.kinds = omega arith in
+    (search due_next, omega arith, on _ _ _ c.loop-e.invariant.2 i c.in_default.ensures refl)

@@ -1,10 +1,16 @@
 -- `sheet_check::table` meets its contract. Assumes nothing.
+use mathlib.Core.Path.{refl}
+use Prim.Native.Nat.{◌<◌}
+use native.Mathlib.Omega.{arith}
 use native.Mathlib.Nat.{sub-zero}
+use Rattle.refusals.proofs.Numbers.{number-some}
 use Rattle.refusals.proofs.FirstFault.{on, here, end}
 use Rattle.sheet_check.proofs.table.Goals as goal
 
-pub returns-then-number-ne0 : goal.returns-then-number-ne0
-returns-then-number-ne0 c = search here
+pub returns-in-Err : goal.returns-in-Err
+returns-in-Err c =
+    let i : c.loop-i.i < c.args.n = omega arith in
+    here _ _ _ c.loop-i.invariant i c.in-Err.ensures (number-some _)
 
 pub returns : goal.returns
 returns c = search end
@@ -13,4 +19,6 @@ pub loop-i-init : goal.loop-i-init
 loop-i-init c = rw sub-zero
 
 pub loop-i-preserved : goal.loop-i-preserved
-loop-i-preserved c = search on
+loop-i-preserved c =
+    let i : c.loop-i.i < c.args.n = omega arith in
+    on _ _ _ c.loop-i.invariant i c.in_default.ensures refl
