@@ -4,12 +4,9 @@
 
 ghost use Rattle.std.specs.Prelude.{◌≡◌, true, ◌∷◌, [], ◌+◌, ◌*◌, ◌≤◌, ◌<◌, pos, length};
 ghost use Rattle.std.proofs.lemmas.List.Edits.{sets};
-ghost use Rattle.sheet_check.specs.Check.{KnownToPass};
-ghost use Rattle.tables.specs.Figures.{origin_of};
 ghost use Rattle.batch.specs.Batch.{one_if_answered, point_at, words_of, pairs, answered, after_pairs, taken, batch_of, answers_of};
 
-use entries::Places;
-use tables::Origin;
+use tables::Passed;
 
 // A batch's answer: its number, and the count of its points with number 0.
 #[derive(Clone, Copy)]
@@ -45,28 +42,23 @@ fn put(answers: &mut [i32], at: usize, number: u32, x: i32, y: i32) -> u32
 }
 
 // Point i, answered at its place; 1 where its number is 0, else 0.
-fn answer_one(s: &[u8], p: Places, o: Origin, points: &[i32], answers: &mut [i32], i: usize) -> u32
-    requires { KnownToPass s.now p × (o ≡ origin_of s.now) × (2 * i + 1 < length points.now) × (3 * i + 3 ≤ length answers.old) }
-    ensures { (result ≡ one_if_answered (point_at s.now points.now i).number) × (result ≤ 1) × (answers.new ≡ sets answers.old (3 * i) (words_of (point_at s.now points.now i))) }
+fn answer_one(sheet: Passed, points: &[i32], answers: &mut [i32], i: usize) -> u32
+    requires { (2 * i + 1 < length points.now) × (3 * i + 3 ≤ length answers.old) }
+    ensures { (result ≡ one_if_answered (point_at sheet.entry.bytes.now points.now i).number) × (result ≤ 1) × (answers.new ≡ sets answers.old (3 * i) (words_of (point_at sheet.entry.bytes.now points.now i))) }
 {
-    let r = forward::forward_from(s, p, o, points[2 * i], points[2 * i + 1]);
+    let r = forward::forward(sheet, points[2 * i], points[2 * i + 1]);
     put(answers, 3 * i, r.number, r.x, r.y)
 }
 
-// Every point, answered in turn; how many have number 0. The origin is read before the loop: the compiler cannot move the reading out of it, since
-// the answers written might be the sheet's memory.
-fn answer_all(s: &[u8], p: Places, points: &[i32], answers: &mut [i32]) -> u32
-    requires { KnownToPass s.now p × (taken (length points.now) (length answers.old) ≡ true) }
-    ensures count { result ≡ answered s.now points.now (pairs points.now) }
-    ensures memory { answers.new ≡ after_pairs s.now points.now (pairs points.now) answers.old }
+// Every point, answered in turn; how many have number 0.
+fn answer_all(sheet: Passed, points: &[i32], answers: &mut [i32]) -> u32
+    requires { taken (length points.now) (length answers.old) ≡ true }
+    ensures count { result ≡ answered sheet.entry.bytes.now points.now (pairs points.now) }
+    ensures memory { answers.new ≡ after_pairs sheet.entry.bytes.now points.now (pairs points.now) answers.old }
 {
-    let o = tables::origin_of(s, p);
-    let n = points.len() / 2;
     let mut count: u32 = 0;
-    let mut i = 0;
-    while i < n {
-        count += answer_one(s, p, o, points, answers, i);
-        i += 1;
+    for i in 0..points.len() / 2 {
+        count += answer_one(sheet, points, answers, i);
     }
     count
 }
@@ -82,10 +74,14 @@ pub fn batch(sheet: &[u8], points: &[i32], answers: &mut [i32]) -> Batched
             count: 0,
         };
     }
-    let number = sheet_check::check(sheet).number;
-    if number != 0 {
-        return Batched { number, count: 0 };
+    match tables::pass(sheet) {
+        Ok(sheet) => Batched {
+            number: 0,
+            count: answer_all(sheet, points, answers),
+        },
+        Err(verdict) => Batched {
+            number: verdict.number,
+            count: 0,
+        },
     }
-    let count = answer_all(sheet, entries::places_of(sheet), points, answers);
-    Batched { number: 0, count }
 }

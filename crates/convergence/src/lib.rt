@@ -1,4 +1,4 @@
-// Convergence and scale at a plane point, on a sheet known to pass, with its places in hand: 12, 13, or Δα and k.
+// Convergence and scale at a plane point, on a sheet known to pass: 12, 13, or Δα and k.
 #![tactic(auto)]
 
 ghost use Rattle.std.specs.Prelude.{◌≡◌, true, ◌≤◌, nat_abs};
@@ -53,7 +53,13 @@ fn taken_at(sheet: Passed, xp: i64, y: i32) -> Taken
     if (sheet.places.northing.step == north) & (sheet.places.scale.step == east) {
         return taken_by(sheet, xp, y, north, east);
     }
-    taken_by(sheet, xp, y, sheet.places.northing.step, sheet.places.scale.step)
+    taken_by(
+        sheet,
+        xp,
+        y,
+        sheet.places.northing.step,
+        sheet.places.scale.step,
+    )
 }
 
 // Working: the grid at a point, from its figures and x'.

@@ -12,46 +12,43 @@ use inverse::Geographic;
 pub fn geographic_to_plane(sheet: &[u8], latitude: i32, longitude: i32) -> Plane
     ensures { result ≡ geographic_to_plane sheet.now latitude longitude }
 {
-    let number = sheet_check::check(sheet).number;
-    if number != 0 {
-        return Plane {
-            number,
+    match tables::pass(sheet) {
+        Ok(sheet) => forward::forward(sheet, latitude, longitude),
+        Err(verdict) => Plane {
+            number: verdict.number,
             x: 0,
             y: 0,
             half: false,
-        };
+        },
     }
-    forward::forward(sheet, entries::places_of(sheet), latitude, longitude)
 }
 
 // Plane to geographic: the check's number, 12, 13, 14, 11, or latitude and longitude.
 pub fn plane_to_geographic(sheet: &[u8], x: i32, y: i32) -> Geographic
     ensures { result ≡ plane_to_geographic sheet.now x y }
 {
-    let number = sheet_check::check(sheet).number;
-    if number != 0 {
-        return Geographic {
-            number,
+    match tables::pass(sheet) {
+        Ok(sheet) => inverse::inverse(sheet, x, y),
+        Err(verdict) => Geographic {
+            number: verdict.number,
             latitude: 0,
             longitude: 0,
             half: false,
-        };
+        },
     }
-    inverse::inverse(sheet, entries::places_of(sheet), x, y)
 }
 
 // Convergence and scale: the check's number, 12, 13, or Δα and k.
 pub fn convergence_and_scale(sheet: &[u8], x: i32, y: i32) -> Grid
     ensures { result ≡ convergence_and_scale sheet.now x y }
 {
-    let number = sheet_check::check(sheet).number;
-    if number != 0 {
-        return Grid {
-            number,
+    match tables::pass(sheet) {
+        Ok(sheet) => convergence::convergence(sheet, x, y),
+        Err(verdict) => Grid {
+            number: verdict.number,
             convergence: 0,
             scale: 0,
             half: false,
-        };
+        },
     }
-    convergence::convergence(sheet, entries::places_of(sheet), x, y)
 }

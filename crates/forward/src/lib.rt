@@ -1,13 +1,12 @@
-// Geographic to plane, on a sheet known to pass, with its places in hand: 10, 11, or x and y.
+// Geographic to plane, on a sheet known to pass: 10, 11, or x and y.
 #![tactic(auto)]
 
 ghost use Rattle.std.specs.Prelude.{◌≡◌, true, ◌≤◌, nat_abs};
 ghost use Rattle.rounding.specs.Ranges.{most_v, most_c, most_s};
 ghost use Rattle.entries.specs.Layout.{latitude, longitude};
 ghost use Rattle.entries.specs.Entries.{step_of, Within};
-ghost use Rattle.sheet_check.specs.Check.{KnownToPass};
 ghost use Rattle.reading.specs.Tables.{offset_of};
-ghost use Rattle.tables.specs.Figures.{InTable, origin_of};
+ghost use Rattle.tables.specs.Figures.{InTable};
 ghost use Rattle.extent.specs.Extent.{latitude_known, longitude_known};
 ghost use Rattle.forward.specs.Forward.{plane_at, forward_of, longitude_at, taken_at, worked_x, worked_x_half, worked_y, worked_y_half, worked_of, Workable};
 

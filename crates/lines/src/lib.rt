@@ -2,12 +2,11 @@
 #![tactic(auto)]
 
 ghost use Rattle.std.specs.Prelude.{◌≡◌, ◌+◌, ◌≤◌, pos, length};
-ghost use Rattle.sheet_check.specs.Check.{KnownToPass};
 ghost use Rattle.decimal.specs.Writing.{size_text, number_text, Wrote};
 ghost use Rattle.lines.specs.Lines.{ended, answer_line, verdict_line, unknown_line, values, values_of, text_of, answer_text, line_room};
 
-use entries::Places;
 use point_line::{BLANK, CONVERGENCE, FORWARD, INVERSE, Line};
+use tables::Passed;
 
 // What a line is answered: a number and two values, zeros where the number refuses.
 #[derive(Clone, Copy)]
@@ -98,14 +97,13 @@ fn put_values(out: &mut [u8], at: usize, v: Values) -> usize
 
 // ---- what a line is answered
 
-// What the line is answered on a sheet known to pass, with its places.
-pub fn values_of(s: &[u8], p: Places, l: Line) -> Values
-    requires { KnownToPass s.now p }
-    ensures { result ≡ values_of s.now l }
+// What the line is answered on a sheet known to pass.
+pub fn values_of(sheet: Passed, l: Line) -> Values
+    ensures { result ≡ values_of sheet.entry.bytes.now l }
 {
     let form = l.form;
     if form == FORWARD {
-        let r = forward::forward(s, p, l.first, l.second);
+        let r = forward::forward(sheet, l.first, l.second);
         return Values {
             number: r.number,
             first: r.x,
@@ -113,7 +111,7 @@ pub fn values_of(s: &[u8], p: Places, l: Line) -> Values
         };
     }
     if form == INVERSE {
-        let r = inverse::inverse(s, p, l.first, l.second);
+        let r = inverse::inverse(sheet, l.first, l.second);
         return Values {
             number: r.number,
             first: r.latitude,
@@ -121,7 +119,7 @@ pub fn values_of(s: &[u8], p: Places, l: Line) -> Values
         };
     }
     if form == CONVERGENCE {
-        let r = convergence::convergence(s, p, l.first, l.second);
+        let r = convergence::convergence(sheet, l.first, l.second);
         return Values {
             number: r.number,
             first: r.convergence,
@@ -131,11 +129,11 @@ pub fn values_of(s: &[u8], p: Places, l: Line) -> Values
     refusal(UNKNOWN)
 }
 
-// The line's answer on a sheet known to pass, with its places, from `at` on; the place after it.
-pub fn answer(s: &[u8], p: Places, line: &[u8], out: &mut [u8], at: usize) -> usize
-    requires { KnownToPass s.now p × (at + line_room ≤ length out.old) }
-    ensures { (result ≤ at + line_room) × Wrote out.old out.new at result (answer_text s.now line.now) }
+// The line's answer on a sheet known to pass, from `at` on; the place after it.
+pub fn answer(sheet: Passed, line: &[u8], out: &mut [u8], at: usize) -> usize
+    requires { at + line_room ≤ length out.old }
+    ensures { (result ≤ at + line_room) × Wrote out.old out.new at result (answer_text sheet.entry.bytes.now line.now) }
 {
-    let v = values_of(s, p, point_line::line_of(line));
+    let v = values_of(sheet, point_line::line_of(line));
     put_values(out, at, v)
 }

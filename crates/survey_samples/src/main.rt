@@ -7,14 +7,13 @@ ghost use Rattle.std.specs.Int.Signed.{non_neg};
 ghost use Rattle.rounding.specs.Ranges.{most_h, most_v, most_a, most_b, most_c, most_p, most_m, most_d, most_s, most_x, most_word};
 ghost use Rattle.entries.specs.Layout.{latitude, longitude, easting};
 ghost use Rattle.entries.specs.Entries.{Within};
-ghost use Rattle.sheet_check.specs.Check.{KnownToPass};
 ghost use Rattle.tables.specs.Figures.{InTable};
 ghost use Rattle.extent.specs.Extent.{latitude_known, longitude_known, northing_known};
 
-use entries::Places;
 use reading::At;
 use std::io::Print;
 use std::rt::Env;
+use tables::Passed;
 
 // Latitude, longitude, x and y, each as the form prints it. Indiana, document 000.
 const INDIANA: [[i32; 4]; 4] = [
@@ -77,60 +76,57 @@ fn print_line(
 // ---- on a sheet
 
 // What the sheet has at a latitude's position.
-fn show_latitude(rt: &HostRuntime, s: &[u8], p: Places, at: At)
-    requires { KnownToPass s.now p × InTable s.now latitude at }
+fn show_latitude(rt: &HostRuntime, sheet: Passed, at: At)
+    requires { InTable sheet.bytes.now latitude at }
 {
-    print_figure(rt, b" y0 ", tables::y0_at(s, p, at).value);
-    print_size(rt, b" H ", tables::h_at(s, p, at).value);
-    print_size(rt, b" V ", tables::v_at(s, p, at).value);
-    print_figure(rt, b" a ", tables::a_at(s, p, at).value);
+    print_figure(rt, b" y0 ", tables::y0_at(sheet, at).value);
+    print_size(rt, b" H ", tables::h_at(sheet, at).value);
+    print_size(rt, b" V ", tables::v_at(sheet, at).value);
+    print_figure(rt, b" a ", tables::a_at(sheet, at).value);
 }
 
 // What it has at a size of L.
-fn show_longitude(rt: &HostRuntime, s: &[u8], p: Places, size: u64)
-    requires { KnownToPass s.now p × Within s.now longitude size }
+fn show_longitude(rt: &HostRuntime, sheet: Passed, size: u64)
+    requires { Within sheet.bytes.now longitude size }
 {
-    let at = extent::position(s, p.longitude, entries::LONGITUDE, p.longitude.step, size);
+    let at = extent::position(sheet, entries::LONGITUDE, sheet.places.longitude.step, size);
     print_size(rt, b" q ", steps::q_of(size).value);
-    print_figure(rt, b" b ", tables::b_at(s, p, at).value);
-    print_figure(rt, b" c ", tables::c_at(s, p, at).value);
+    print_figure(rt, b" b ", tables::b_at(sheet, at).value);
+    print_figure(rt, b" c ", tables::c_at(sheet, at).value);
 }
 
 // The figures of the way forward, of a latitude and a longitude within the tables.
-fn show_point(rt: &HostRuntime, s: &[u8], p: Places, latitude: i32, longitude: i32)
-    requires { KnownToPass s.now p × (latitude_known s.now latitude ≡ true) × (longitude_known s.now longitude ≡ true) }
+fn show_point(rt: &HostRuntime, sheet: Passed, latitude: i32, longitude: i32)
+    requires { (latitude_known sheet.bytes.now latitude ≡ true) × (longitude_known sheet.bytes.now longitude ≡ true) }
 {
-    let o = tables::origin_of(s, p);
-    let t = extent::from_first(s, o, latitude) as u64;
-    let l = extent::l_of(s, o, longitude);
-    let north = extent::position(s, p.latitude, entries::LATITUDE, entries::ONE_MINUTE, t);
-    show_latitude(rt, s, p, north);
+    let t = extent::from_first(sheet, latitude) as u64;
+    let l = extent::l_of(sheet, longitude);
+    let north = extent::position(sheet, entries::LATITUDE, entries::ONE_MINUTE, t);
+    show_latitude(rt, sheet, north);
     print_figure(rt, b" L ", l);
-    show_longitude(rt, s, p, rounding::size(l));
+    show_longitude(rt, sheet, rounding::size(l));
     print(rt, b"\n");
 }
 
 // A station forward, with the figures on the way.
-fn forward(rt: &HostRuntime, s: &[u8], p: Places, latitude: i32, longitude: i32)
-    requires { KnownToPass s.now p }
+fn forward(rt: &HostRuntime, sheet: Passed, latitude: i32, longitude: i32)
 {
-    let r = convert::geographic_to_plane(s, latitude, longitude);
+    let r = forward::forward(sheet, latitude, longitude);
     print_line(rt, b"G", latitude, longitude, r.number, r.x, r.y);
-    let o = tables::origin_of(s, p);
-    if !extent::latitude_known(s, p, o, latitude) {
+    if !extent::latitude_known(sheet, latitude) {
         return;
     }
-    if !extent::longitude_known(s, p, o, longitude) {
+    if !extent::longitude_known(sheet, longitude) {
         return;
     }
-    show_point(rt, s, p, latitude, longitude);
+    show_point(rt, sheet, latitude, longitude);
 }
 
 // The figures of the way back as far as the reduced northing, at the size x of x' and y.
-fn show_reduction(rt: &HostRuntime, s: &[u8], p: Places, x: u64, y: i32)
-    requires { KnownToPass s.now p × Within s.now easting x × (northing_known s.now y ≡ true) }
+fn show_reduction(rt: &HostRuntime, sheet: Passed, x: u64, y: i32)
+    requires { Within sheet.bytes.now easting x × (northing_known sheet.bytes.now y ≡ true) }
 {
-    let read = inverse::for_reduction(s, p, x, y);
+    let read = inverse::for_reduction(sheet, x, y);
     print_size(rt, b" P ", read.p.value);
     print_figure(rt, b" d ", read.d.value);
     print_figure(
@@ -143,29 +139,26 @@ fn show_reduction(rt: &HostRuntime, s: &[u8], p: Places, x: u64, y: i32)
 }
 
 // A station back, with the figures on the way.
-fn back(rt: &HostRuntime, s: &[u8], p: Places, x: i32, y: i32)
-    requires { KnownToPass s.now p }
+fn back(rt: &HostRuntime, sheet: Passed, x: i32, y: i32)
 {
-    let r = convert::plane_to_geographic(s, x, y);
+    let r = inverse::inverse(sheet, x, y);
     print_line(rt, b"P", x, y, r.number, r.latitude, r.longitude);
-    let o = tables::origin_of(s, p);
-    let xp = extent::x_prime(s, o, x);
-    if !extent::easting_known(s, p, xp) {
+    let xp = extent::x_prime(sheet, x);
+    if !extent::easting_known(sheet, xp) {
         return;
     }
-    if !extent::northing_known(s, p, y) {
+    if !extent::northing_known(sheet, y) {
         return;
     }
-    show_reduction(rt, s, p, rounding::size(xp), y);
+    show_reduction(rt, sheet, rounding::size(xp), y);
 }
 
 // A station, at its latitude, longitude, x and y: forward, back, and its convergence and scale.
-fn station(rt: &HostRuntime, s: &[u8], p: Places, point: [i32; 4])
-    requires { KnownToPass s.now p }
+fn station(rt: &HostRuntime, sheet: Passed, point: [i32; 4])
 {
-    forward(rt, s, p, point[0], point[1]);
-    back(rt, s, p, point[2], point[3]);
-    let r = convert::convergence_and_scale(s, point[2], point[3]);
+    forward(rt, sheet, point[0], point[1]);
+    back(rt, sheet, point[2], point[3]);
+    let r = convergence::convergence(sheet, point[2], point[3]);
     print_line(
         rt,
         b"S",
@@ -178,12 +171,11 @@ fn station(rt: &HostRuntime, s: &[u8], p: Places, point: [i32; 4])
 }
 
 // Every station of a table.
-fn station_each(rt: &HostRuntime, s: &[u8], p: Places, points: &[[i32; 4]])
-    requires { KnownToPass s.now p }
+fn station_each(rt: &HostRuntime, sheet: Passed, points: &[[i32; 4]])
 {
     let mut k = 0;
     while k < points.len() {
-        station(rt, s, p, points[k]);
+        station(rt, sheet, points[k]);
         k += 1;
     }
 }
@@ -192,9 +184,8 @@ fn station_each(rt: &HostRuntime, s: &[u8], p: Places, points: &[[i32; 4]])
 fn work(rt: &HostRuntime, sheet: &[u8], n: usize, points: &[[i32; 4]])
     requires { n ≤ length sheet.now }
 {
-    let s = &sheet[0..n];
-    if sheet_check::check(s).number == 0 {
-        station_each(rt, s, entries::places_of(s), points);
+    if let Ok(passed) = tables::pass(&sheet[0..n]) {
+        station_each(rt, passed, points);
     }
 }
 

@@ -21,13 +21,13 @@ x_is c = search rules
 y_is : (c : Start) → to_z w32 (of_z w32 c.args.y) ≡ c.args.y
 y_is c = search rules
 
-xp_is : (c : After-x_prime-xp) → to_z w64 (of_z w64 c.x_prime-xp.result) ≡ x_prime c.args.s.now c.args.x
+xp_is : (c : After-x_prime-xp) → to_z w64 (of_z w64 c.x_prime-xp.result) ≡ x_prime c.args.sheet.bytes.now c.args.x
 xp_is c = bits_is c.x_prime-xp.type_inv ∙ c.x_prime-xp.ensures.0 ∙ ap (x_prime _) (x_is (goal.at.After-x_prime-xp c).Start)
 
-scale-known_is : (c : After-scale_known) → let args = c.args in c.scale_known.result ≡ scale_known args.s.now (x_prime args.s.now args.x)
+scale-known_is : (c : After-scale_known) → let args = c.args in c.scale_known.result ≡ scale_known args.sheet.bytes.now (x_prime args.sheet.bytes.now args.x)
 scale-known_is c = c.scale_known.ensures ∙ ap (scale_known _) (xp_is (goal.at.After-scale_known c).After-x_prime-xp)
 
-northing_is : (c : After-northing_known) → let args = c.args in c.northing_known.result ≡ northing_known args.s.now args.y
+northing_is : (c : After-northing_known) → let args = c.args in c.northing_known.result ≡ northing_known args.sheet.bytes.now args.y
 northing_is c = c.northing_known.ensures ∙ ap (northing_known _) (y_is (goal.at.After-northing_known c).Start)
 
 pub returns-then-not-scale_known : goal.returns-then-not-scale_known
@@ -43,10 +43,10 @@ module _ (c : Else-not-northing_known) where
   abbrev start : Start
   start = (goal.at.Else-not-northing_known c).Start
 
-  scale_there : scale_known start.args.s.now (x_prime start.args.s.now start.args.x) ≡ true
+  scale_there : scale_known start.args.sheet.bytes.now (x_prime start.args.sheet.bytes.now start.args.x) ≡ true
   scale_there = kept _ _ (scale-known_is (goal.at.Else-not-northing_known c).After-scale_known) c.if-not-scale_known.false
 
-  northing_there : northing_known start.args.s.now start.args.y ≡ true
+  northing_there : northing_known start.args.sheet.bytes.now start.args.y ≡ true
   northing_there = kept _ _ (northing_is (goal.at.Else-not-northing_known c).After-northing_known) c.if-not-northing_known.false
 
 pub returns : goal.returns
@@ -58,9 +58,9 @@ returns c =
     (c.worked.ensures ∙ rw (c.taken_at.ensures.0, xp, y_is (start (goal.at.returns c).Else-not-northing_known)) (taken-worked _ _ _)))
 
 pub taken_at-requires : goal.taken_at-requires
-taken_at-requires c = ((start c).requires, rw (xp_is (goal.at.taken_at-requires c).After-x_prime-xp) (scale_there c), rw (y_is (start c)) (northing_there c))
+taken_at-requires c = (rw (xp_is (goal.at.taken_at-requires c).After-x_prime-xp) (scale_there c), rw (y_is (start c)) (northing_there c))
 
 pub worked-requires : goal.worked-requires
 worked-requires c =
-    let z = (start (goal.at.worked-requires c).Else-not-northing_known).requires.passes in
+    let z = (start (goal.at.worked-requires c).Else-not-northing_known).args.sheet.known.passes in
     (c.taken_at.ensures.1, c.taken_at.ensures.2, rw (xp_is (goal.at.worked-requires c).After-x_prime-xp) (le_trans (xp_most _ _ (start (goal.at.worked-requires c).Else-not-northing_known).args.y z (scale_there (goal.at.worked-requires c).Else-not-northing_known)) (lit≤ tt)))

@@ -11,7 +11,7 @@ use Rattle.tables.proofs.Parts.{found_step, place-step}
 use Rattle.convergence.specs.Grid.{taken_at}
 use borrow.Author.Rules.{rules}
 use Rattle.convergence.proofs.taken_at.Goals as goal
-use Rattle.convergence.proofs.taken_at.Goals.{After-usual_step-east, Start, Then-p-north}
+use Rattle.convergence.proofs.taken_at.Goals.{After-usual_step-east, Start, Then-sheet-north}
 
 module _ (c : Start) where
   xp_is : to_z w64 (of_z w64 c.args.xp) ≡ c.args.xp
@@ -21,25 +21,26 @@ module _ (c : Start) where
   y_is = search rules
 
 -- the steps, where both are the usual ones
-found : (c : Then-p-north)
-    → let east = (goal.at.Then-p-north c).After-usual_step-east in
-    let p = east.args.p in (p.northing.step ≡ east.usual_step-north.result) × (p.scale.step ≡ east.usual_step-east.result)
+found : (c : Then-sheet-north)
+    → let east = (goal.at.Then-sheet-north c).After-usual_step-east in
+    let p = east.args.sheet.places in (p.northing.step ≡ east.usual_step-north.result) × (p.scale.step ≡ east.usual_step-east.result)
 found c =
-    let east = (goal.at.Then-p-north c).After-usual_step-east in
-    let p = east.args.p in
-    let tests = both (eqb p.northing.step east.usual_step-north.result) (eqb p.scale.step east.usual_step-east.result) c.if-p-north.true in
+    let east = (goal.at.Then-sheet-north c).After-usual_step-east in
+    let p = east.args.sheet.places in
+    let tests = both (eqb p.northing.step east.usual_step-north.result) (eqb p.scale.step east.usual_step-east.result) c.if-sheet-north.true in
     (eqb-true _ _ tests.0, eqb-true _ _ tests.1)
 
 pub taken_by-requires : goal.taken_by-requires
 taken_by-requires c =
     let north = (found c).0 in
     let east = (found c).1 in
+    let known = (goal.at.taken_by-requires c).Start.args.sheet.known in
     search (northing-placed, scale-placed, found_step, north, east, rules)
 
-pub returns-then-p-north : goal.returns-then-p-north
-returns-then-p-north c =
+pub returns-then-sheet-north : goal.returns-then-sheet-north
+returns-then-sheet-north c =
     let r = c.taken_by.ensures in
-    (r.0 ∙ both-same (taken_at _) (xp_is (goal.at.returns-then-p-north c).Start) (y_is (goal.at.returns-then-p-north c).Start), r.1, r.2)
+    (r.0 ∙ both-same (taken_at _) (xp_is (goal.at.returns-then-sheet-north c).Start) (y_is (goal.at.returns-then-sheet-north c).Start), r.1, r.2)
 
 pub returns : goal.returns
 returns c =
@@ -47,4 +48,4 @@ returns c =
     (r.0 ∙ both-same (taken_at _) (xp_is (goal.at.returns c).Start) (y_is (goal.at.returns c).Start), r.1, r.2)
 
 pub taken_by-requires-2 : goal.taken_by-requires-2
-taken_by-requires-2 c = search (northing-placed, scale-placed, place-step, rules)
+taken_by-requires-2 c = let known = c.args.sheet.known in search (northing-placed, scale-placed, place-step, rules)

@@ -7,7 +7,6 @@ use mir.Syntax.{w64}
 use mir.Val.{to_z, of_z}
 use Rattle.rounding.proofs.Sizes.{size_non_neg}
 use Rattle.rounding.proofs.Holds.{unsigned_fits}
-use Rattle.sheet_check.proofs.Known.{northing-placed, scale-placed}
 use Rattle.extent.proofs.Reach.{northing_reach, northing-within, scale-within}
 use Rattle.extent.proofs.Points.{wide, wide_fits, size_small}
 use Rattle.convergence.proofs.Convergences.{taken_is, xp_most}
@@ -34,13 +33,13 @@ pub overflow_cast-y : goal.overflow_cast-y
 overflow_cast-y c = wide_fits c.ranges.y
 
 pub overflow_cast-y-2 : goal.overflow_cast-y-2
-overflow_cast-y-2 c = unsigned_fits (wide c.ranges.y) (size_non_neg (northing_reach _ _ c.requires.2)) tt
+overflow_cast-y-2 c = unsigned_fits (wide c.ranges.y) (size_non_neg (northing_reach _ _ c.requires.1)) tt
 
 pub position-at-requires : goal.position-at-requires
-position-at-requires c = let p = c.requires in (northing-placed _ _ p.0, lit≤ tt, p.3, rw (wide c.ranges.y).is (northing-within _ _ p.2))
+position-at-requires c = let p = c.requires in (lit≤ tt, lit≤ tt, lit≤ tt, p.2, rw (wide c.ranges.y).is (northing-within _ _ p.1))
 
 pub size-size-requires : goal.size-size-requires
-size-size-requires c = size_small (xp_is (goal.at.size-size-requires c).Start) (le_trans (xp_most _ _ c.args.y c.requires.0.passes c.requires.1) (lit≤ tt))
+size-size-requires c = size_small (xp_is (goal.at.size-size-requires c).Start) (le_trans (xp_most _ _ c.args.y c.args.sheet.known.passes c.requires.0) (lit≤ tt))
 
 pub position-beside-requires : goal.position-beside-requires
-position-beside-requires c = let p = c.requires in (scale-placed _ _ p.0, lit≤ tt, p.4, rw (size_is (goal.at.position-beside-requires c).After-size-size) (scale-within _ _ p.1))
+position-beside-requires c = let p = c.requires in (lit≤ tt, lit≤ tt, lit≤ tt, p.3, rw (size_is (goal.at.position-beside-requires c).After-size-size) (scale-within _ _ p.0))

@@ -1,6 +1,5 @@
 -- `forward::longitude_by` meets its contract. Assumes nothing.
 use lib.Dec.{lit≤}
-use Rattle.sheet_check.proofs.Known.{longitude-placed}
 use Rattle.forward.proofs.Eastings.{longitude_is}
 use Rattle.forward.proofs.longitude_by.Goals as goal
 
@@ -11,4 +10,4 @@ returns c =
     longitude_is _ _ _ c.position-at.ensures.1 b.0 b.2 k.0 k.2
 
 pub position-at-requires : goal.position-at-requires
-position-at-requires c = let p = c.requires in (longitude-placed _ _ p.0, lit≤ tt, p.1, p.2)
+position-at-requires c = (lit≤ tt, lit≤ tt, lit≤ tt, c.requires.0, c.requires.1)
