@@ -3,11 +3,10 @@
 
 ghost use Rattle.std.specs.Prelude.{◌≡◌, ◌+◌, ◌*◌, ◌<◌, ◌≤◌, length};
 ghost use Rattle.entries.specs.Layout.{latitude, row_bytes};
-ghost use Rattle.sheet_check.specs.Check.{KnownToPass};
 ghost use Rattle.differing.specs.Differing.{same_figures, row_differs, differs_at, is_differing};
 
-use entries::Places;
 use rules::Figures;
+use tables::Passed;
 
 // Whether the four figures are the same.
 fn same_figures(f: Figures, g: Figures) -> bool
@@ -46,12 +45,11 @@ fn differs_in(b: &[u8], n: usize, c: &[u8], m: usize, minute: i32) -> bool
     row_differs(b, minute_row::named_row(b, n, minute), c, m)
 }
 
-// Whether the old sheet has a latitude row with the minute, and that row is different in the new one, or missing there. Both sheets are known to pass, with their places.
-pub fn differs_at(old: &[u8], p: Places, new: &[u8], q: Places, minute: i32) -> bool
-    requires { KnownToPass old.now p × KnownToPass new.now q }
-    ensures { result ≡ is_differing old.now new.now minute }
+// Whether the old sheet has a latitude row with the minute, and that row is different in the new one, or missing there.
+pub fn differs_at(old: Passed, new: Passed, minute: i32) -> bool
+    ensures { result ≡ is_differing old.entry.bytes.now new.entry.bytes.now minute }
 {
-    let b = contents::body(old, p.latitude, entries::LATITUDE);
-    let c = contents::body(new, q.latitude, entries::LATITUDE);
-    differs_in(b, p.latitude.rows, c, q.latitude.rows, minute)
+    let b = old.table(entries::LATITUDE);
+    let c = new.table(entries::LATITUDE);
+    differs_in(b.body(), b.place.rows, c.body(), c.place.rows, minute)
 }

@@ -2,30 +2,20 @@
 use mathlib.Core.Path.{◌≡◌, ◌∙◌}
 use mathlib.Core.Bool.{Bool, true}
 use mathlib.Core.List.{List}
-use Prim.Native.Nat.{ℕ, ◌*◌, ◌≤◌}
-use native.Mathlib.Omega.{arith}
+use Prim.Native.Nat.{ℕ}
 use lib.IntN.{ℤ}
-use lib.ListN.{length}
-use Rattle.entries.specs.declared.Places.{Places}
-use Rattle.entries.specs.Layout.{latitude, width_of, row_bytes}
-use Rattle.entries.specs.Entries.{body_of}
-use Rattle.sheet_check.specs.Check.{KnownToPass}
-use Rattle.extent.proofs.Counts.{count_is}
+use Rattle.entries.specs.Layout.{latitude}
+use Rattle.entries.specs.Entries.{rows_of, body_of}
 use Rattle.minute_row.specs.MinuteRow.{named_row, has_row}
 use Rattle.touched.specs.Touched.{has_minute, row_named}
 
-module _ (s : List ℕ) (p : Places) (known : KnownToPass s p) (b : List ℕ) (is : b ≡ body_of s latitude) where
-  -- it has the rows
-  pub lent_holds : length b ≡ 4 * (p.latitude.rows * width_of latitude) → row_bytes latitude * p.latitude.rows ≤ length b
-  lent_holds long = omega (arith, long)
+-- b is the body, of n rows, and m has the bits of the minute
+module _ (s b : List ℕ) (n : ℕ) (m minute : ℤ) (is : b ≡ body_of s latitude) (count : n ≡ rows_of s latitude) (same : m ≡ minute) where
+  pub minute_found : (r : Bool) → r ≡ has_row b n m → r ≡ has_minute s minute
+  minute_found r q = q ∙ rw (is, same, count)
 
-  -- ---- m has the bits of the minute
-  module _ (m minute : ℤ) (same : m ≡ minute) where
-    pub minute_found : (r : Bool) → r ≡ has_row b p.latitude.rows m → r ≡ has_minute s minute
-    minute_found r q = q ∙ rw (is, same, count_is s p known)
+  pub minute_there : has_minute s minute ≡ true → has_row b n m ≡ true
+  minute_there h = rw (is, same, count) h
 
-    pub minute_there : has_minute s minute ≡ true → has_row b p.latitude.rows m ≡ true
-    minute_there h = rw (is, same, count_is s p known) h
-
-    pub minute_row : (r : ℕ) → r ≡ named_row b m → r ≡ row_named s minute
-    minute_row r q = q ∙ rw (is, same)
+  pub minute_row : (r : ℕ) → r ≡ named_row b m → r ≡ row_named s minute
+  minute_row r q = q ∙ rw (is, same)

@@ -1,14 +1,12 @@
-// Which points a correction of one latitude row may touch. Each question has two forms with one definition: over any bytes, which are checked first, and over a sheet known to
-// pass, with its places in hand.
+// Which points a correction of one latitude row may touch. Each question has two forms with one definition: over any bytes, which are checked first, and over a sheet that passes.
 #![tactic(auto)]
 
 ghost use Rattle.std.specs.Prelude.{◌≡◌, true, ◌<◌};
 ghost use Rattle.entries.specs.Layout.{latitude};
 ghost use Rattle.entries.specs.Entries.{rows_of};
-ghost use Rattle.sheet_check.specs.Check.{KnownToPass};
-ghost use Rattle.touched.specs.Touched.{has_minute, row_named, near_row, forward_touched, above_prior, below_next, inverse_touched, geographic_touched, plane_touched};
+ghost use Rattle.touched.specs.Touched.{no_touch, has_minute, row_named, near_row, forward_touched, above_prior, below_next, inverse_touched, geographic_touched, plane_touched};
 
-use entries::Places;
+use tables::Passed;
 
 // Whether a correction may change a point's answer. A refusal has its number, and no.
 #[derive(Clone, Copy)]
@@ -17,22 +15,31 @@ pub struct Touch {
     pub touched: bool,
 }
 
-// Whether the sheet has a latitude row with the minute.
-fn has_minute(s: &[u8], p: Places, minute: i32) -> bool
-    requires { KnownToPass s.now p }
-    ensures { result ≡ has_minute s.now minute }
+// A refusal with its number.
+fn refused(number: u32) -> Touch
+    ensures { result ≡ no_touch number }
 {
-    let b = contents::body(s, p.latitude, entries::LATITUDE);
-    minute_row::has_row(b, p.latitude.rows, minute)
+    Touch {
+        number,
+        touched: false,
+    }
+}
+
+// Whether the sheet has a latitude row with the minute.
+fn has_minute(sheet: Passed, minute: i32) -> bool
+    ensures { result ≡ has_minute sheet.entry.bytes.now minute }
+{
+    let rows = sheet.table(entries::LATITUDE);
+    minute_row::has_row(rows.body(), rows.place.rows, minute)
 }
 
 // The latitude row with the minute, which the sheet has.
-fn row_named(s: &[u8], p: Places, minute: i32) -> usize
-    requires { KnownToPass s.now p × (has_minute s.now minute ≡ true) }
-    ensures { (result ≡ row_named s.now minute) × (result < rows_of s.now latitude) }
+fn row_named(sheet: Passed, minute: i32) -> usize
+    requires { has_minute sheet.bytes.now minute ≡ true }
+    ensures { (result ≡ row_named sheet.entry.bytes.now minute) × (result < rows_of sheet.entry.bytes.now latitude) }
 {
-    let b = contents::body(s, p.latitude, entries::LATITUDE);
-    minute_row::named_row(b, p.latitude.rows, minute)
+    let rows = sheet.table(entries::LATITUDE);
+    minute_row::named_row(rows.body(), rows.place.rows, minute)
 }
 
 // Whether the latitude lies less than a minute from the row's.
@@ -44,73 +51,66 @@ fn near_row(minute: i32, latitude: i32) -> bool
 }
 
 // Whether a correction of the minute's row may change the answer to a geographic point.
-fn may_move_plane(s: &[u8], p: Places, minute: i32, latitude: i32, longitude: i32) -> bool
-    requires { KnownToPass s.now p }
-    ensures { result ≡ forward_touched s.now minute latitude longitude }
+fn may_move_plane(sheet: Passed, minute: i32, latitude: i32, longitude: i32) -> bool
+    ensures { result ≡ forward_touched sheet.entry.bytes.now minute latitude longitude }
 {
-    let o = tables::origin_of(s, p);
-    if !extent::latitude_known(s, p, o, latitude) {
+    if !extent::latitude_known(sheet, latitude) {
         return false;
     }
-    if !extent::longitude_known(s, p, o, longitude) {
+    if !extent::longitude_known(sheet, longitude) {
         return false;
     }
     near_row(minute, latitude)
 }
 
 // Whether the reduced northing lies above y0 of the row before r; of the first row, not below the least y0 that its bound allows.
-fn above_prior(s: &[u8], p: Places, r: usize, reduced: i64) -> bool
-    requires { KnownToPass s.now p × (r < rows_of s.now latitude) }
-    ensures { result ≡ above_prior s.now r reduced }
+fn above_prior(sheet: Passed, r: usize, reduced: i64) -> bool
+    requires { r < rows_of sheet.bytes.now latitude }
+    ensures { result ≡ above_prior sheet.entry.bytes.now r reduced }
 {
     if 0 < r {
-        return tables::y0_of(s, p, r - 1) < reduced;
+        return tables::y0_of(sheet, r - 1) < reduced;
     }
-    tables::y0_of(s, p, r + 1) - (rules::MOST_RISE as i64) <= reduced
+    tables::y0_of(sheet, r + 1) - (rules::MOST_RISE as i64) <= reduced
 }
 
 // Whether the reduced northing lies below y0 of the row after r; of the last row, not above the greatest y0 that its bound allows.
-fn below_next(s: &[u8], p: Places, r: usize, reduced: i64) -> bool
-    requires { KnownToPass s.now p × (r < rows_of s.now latitude) }
-    ensures { result ≡ below_next s.now r reduced }
+fn below_next(sheet: Passed, r: usize, reduced: i64) -> bool
+    requires { r < rows_of sheet.bytes.now latitude }
+    ensures { result ≡ below_next sheet.entry.bytes.now r reduced }
 {
-    if r + 1 < p.latitude.rows {
-        return reduced < tables::y0_of(s, p, r + 1);
+    if r + 1 < sheet.places.latitude.rows {
+        return reduced < tables::y0_of(sheet, r + 1);
     }
-    reduced <= tables::y0_of(s, p, r - 1) + (rules::MOST_RISE as i64)
+    reduced <= tables::y0_of(sheet, r - 1) + (rules::MOST_RISE as i64)
 }
 
 // Whether a correction of row r may change the answer to a plane point.
-fn may_move_earth(s: &[u8], p: Places, r: usize, x: i32, y: i32) -> bool
-    requires { KnownToPass s.now p × (r < rows_of s.now latitude) }
-    ensures { result ≡ inverse_touched s.now r x y }
+fn may_move_earth(sheet: Passed, r: usize, x: i32, y: i32) -> bool
+    requires { r < rows_of sheet.bytes.now latitude }
+    ensures { result ≡ inverse_touched sheet.entry.bytes.now r x y }
 {
-    let o = tables::origin_of(s, p);
-    let xp = extent::x_prime(s, o, x);
-    if !extent::easting_known(s, p, xp) {
+    let xp = extent::x_prime(sheet, x);
+    if !extent::easting_known(sheet, xp) {
         return false;
     }
-    if !extent::northing_known(s, p, y) {
+    if !extent::northing_known(sheet, y) {
         return false;
     }
-    let reduced = inverse::reduced_northing(s, p, rounding::size(xp), y).value;
-    above_prior(s, p, r, reduced) & below_next(s, p, r, reduced)
+    let reduced = inverse::reduced_northing(sheet, rounding::size(xp), y).value;
+    above_prior(sheet, r, reduced) & below_next(sheet, r, reduced)
 }
 
-// Whether a correction of the minute's row may change the answer to a geographic point, on a sheet known to pass, with its places.
-pub fn forward_touched(s: &[u8], p: Places, minute: i32, latitude: i32, longitude: i32) -> Touch
-    requires { KnownToPass s.now p }
-    ensures { result ≡ geographic_touched s.now minute latitude longitude }
+// Whether a correction of the minute's row may change the answer to a geographic point, on a sheet that passes.
+pub fn forward_touched(sheet: Passed, minute: i32, latitude: i32, longitude: i32) -> Touch
+    ensures { result ≡ geographic_touched sheet.entry.bytes.now minute latitude longitude }
 {
-    if !has_minute(s, p, minute) {
-        return Touch {
-            number: 16,
-            touched: false,
-        };
+    if !has_minute(sheet, minute) {
+        return refused(16);
     }
     Touch {
         number: 0,
-        touched: may_move_plane(s, p, minute, latitude, longitude),
+        touched: may_move_plane(sheet, minute, latitude, longitude),
     }
 }
 
@@ -118,37 +118,23 @@ pub fn forward_touched(s: &[u8], p: Places, minute: i32, latitude: i32, longitud
 pub fn geographic_touched(sheet: &[u8], minute: i32, latitude: i32, longitude: i32) -> Touch
     ensures { result ≡ geographic_touched sheet.now minute latitude longitude }
 {
-    let number = sheet_check::check(sheet).number;
-    if number != 0 {
-        return Touch {
-            number,
-            touched: false,
-        };
+    match tables::pass(sheet) {
+        Ok(sheet) => forward_touched(sheet, minute, latitude, longitude),
+        Err(verdict) => refused(verdict.number),
     }
-    forward_touched(
-        sheet,
-        entries::places_of(sheet),
-        minute,
-        latitude,
-        longitude,
-    )
 }
 
-// Whether a correction of the minute's row may change the answer to a plane point, on a sheet known to pass, with its places.
-pub fn inverse_touched(s: &[u8], p: Places, minute: i32, x: i32, y: i32) -> Touch
-    requires { KnownToPass s.now p }
-    ensures { result ≡ plane_touched s.now minute x y }
+// Whether a correction of the minute's row may change the answer to a plane point, on a sheet that passes.
+pub fn inverse_touched(sheet: Passed, minute: i32, x: i32, y: i32) -> Touch
+    ensures { result ≡ plane_touched sheet.entry.bytes.now minute x y }
 {
-    if !has_minute(s, p, minute) {
-        return Touch {
-            number: 16,
-            touched: false,
-        };
+    if !has_minute(sheet, minute) {
+        return refused(16);
     }
-    let r = row_named(s, p, minute);
+    let r = row_named(sheet, minute);
     Touch {
         number: 0,
-        touched: may_move_earth(s, p, r, x, y),
+        touched: may_move_earth(sheet, r, x, y),
     }
 }
 
@@ -156,12 +142,8 @@ pub fn inverse_touched(s: &[u8], p: Places, minute: i32, x: i32, y: i32) -> Touc
 pub fn plane_touched(sheet: &[u8], minute: i32, x: i32, y: i32) -> Touch
     ensures { result ≡ plane_touched sheet.now minute x y }
 {
-    let number = sheet_check::check(sheet).number;
-    if number != 0 {
-        return Touch {
-            number,
-            touched: false,
-        };
+    match tables::pass(sheet) {
+        Ok(sheet) => inverse_touched(sheet, minute, x, y),
+        Err(verdict) => refused(verdict.number),
     }
-    inverse_touched(sheet, entries::places_of(sheet), minute, x, y)
 }

@@ -4,4 +4,7 @@ use borrow.Author.Rules.{rules}
 use Rattle.reached.proofs.is_reached_on.Goals as goal
 
 pub returns : goal.returns
-returns c = search (at_two, rules)
+returns c =
+    let old = c.args.old.known.passes in
+    let own = c.args.sheet.known.passes in
+    search (at_two, rules)

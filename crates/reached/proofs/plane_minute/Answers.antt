@@ -22,18 +22,18 @@ x_is c = search rules
 y_is : (c : Start) → to_z w32 (of_z w32 c.args.y) ≡ c.args.y
 y_is c = search rules
 
-xp_is : (c : After-x_prime-xp) → to_z w64 (of_z w64 c.x_prime-xp.result) ≡ x_prime c.args.s.now c.args.x
+xp_is : (c : After-x_prime-xp) → to_z w64 (of_z w64 c.x_prime-xp.result) ≡ x_prime c.args.sheet.bytes.now c.args.x
 xp_is c = bits_is c.x_prime-xp.type_inv ∙ c.x_prime-xp.ensures.0 ∙ ap (x_prime _) (x_is (goal.at.After-x_prime-xp c).Start)
 
-easting-known_is : (c : After-easting_known) → let args = c.args in c.easting_known.result ≡ easting_known args.s.now (x_prime args.s.now args.x)
+easting-known_is : (c : After-easting_known) → let args = c.args in c.easting_known.result ≡ easting_known args.sheet.bytes.now (x_prime args.sheet.bytes.now args.x)
 easting-known_is c = c.easting_known.ensures ∙ ap (easting_known _) (xp_is (goal.at.After-easting_known c).After-x_prime-xp)
 
-northing_is : (c : After-northing_known) → let args = c.args in c.northing_known.result ≡ northing_known args.s.now args.y
+northing_is : (c : After-northing_known) → let args = c.args in c.northing_known.result ≡ northing_known args.sheet.bytes.now args.y
 northing_is c = c.northing_known.ensures ∙ ap (northing_known _) (y_is (goal.at.After-northing_known c).Start)
 
 reduced_is : (c : After-reduced_northing-z)
     → let args = c.args in
-    to_z w64 (of_z w64 c.reduced_northing-z.result.value) ≡ reduced_northing args.s.now (nat_abs (x_prime args.s.now args.x)) args.y
+    to_z w64 (of_z w64 c.reduced_northing-z.result.value) ≡ reduced_northing args.sheet.bytes.now (nat_abs (x_prime args.sheet.bytes.now args.x)) args.y
 reduced_is c =
     let size = c.size.ensures ∙ ap nat_abs (xp_is (goal.at.After-reduced_northing-z c).After-x_prime-xp) in
     let bits : to_z w64 (of_z w64 c.reduced_northing-z.result.value) ≡ c.reduced_northing-z.result.value = search rules in
@@ -41,9 +41,7 @@ reduced_is c =
 
 -- the first minute and the row are small
 sum_most : (c : After-row_below) → c.first_minute.result + c.row_below.result ≤ 6_600
-sum_most c =
-    let p = c.requires in
-    omega (arith, c.first_minute.ensures.1, c.row_below.ensures.1, latitude_count _ p.passes)
+sum_most c = omega (arith, c.first_minute.ensures.1, c.row_below.ensures.1, latitude_count _ c.args.sheet.known.passes)
 
 pub returns-then-not-easting_known : goal.returns-then-not-easting_known
 unfolding plane_minute
@@ -67,9 +65,8 @@ size-requires c = let xp = c.x_prime-xp in bits_below xp.result xp.type_inv xp.e
 
 pub reduced_northing-z-requires : goal.reduced_northing-z-requires
 reduced_northing-z-requires c =
-    let p = c.requires in
     let easting = kept _ _ c.easting_known.ensures c.if-not-easting_known.false in
-    (p, rw c.size.ensures (easting-within _ _ easting), kept _ _ c.northing_known.ensures c.if-not-northing_known.false)
+    (rw c.size.ensures (easting-within _ _ easting), kept _ _ c.northing_known.ensures c.if-not-northing_known.false)
 
 pub overflow_add-result : goal.overflow_add-result
 overflow_add-result c = record { fits = omega (arith, sum_most c) }

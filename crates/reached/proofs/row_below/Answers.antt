@@ -14,18 +14,17 @@ z_is : (c : Start) → to_z w64 (of_z w64 c.args.z) ≡ c.args.z
 z_is c = search rules
 
 pub y0_of-requires : goal.y0_of-requires
-y0_of-requires c = let p = c.requires in (p.0, latitude-some _ p.0.passes)
+y0_of-requires c = latitude-some _ c.args.sheet.known.passes
 
 pub returns-then-z-y0_of : goal.returns-then-z-y0_of
 returns-then-z-y0_of c =
     let read = c.y0_of in
-    (none_below_it _ c.requires.0.passes _ _ _ (z_is (goal.at.returns-then-z-y0_of c).Start) (bits_is read.type_inv ∙ read.ensures.0) c.if-z-y0_of.true, latitude-some _ c.requires.0.passes)
+    (none_below_it _ c.args.sheet.known.passes _ _ _ (z_is (goal.at.returns-then-z-y0_of c).Start) (bits_is read.type_inv ∙ read.ensures.0) c.if-z-y0_of.true, latitude-some _ c.args.sheet.known.passes)
 
 pub row_of_northing-requires : goal.row_of_northing-requires
 row_of_northing-requires c =
     let read = c.y0_of in
-    let p = c.requires in
-    (p.0, some_below_it _ p.0.passes _ _ _ (z_is (goal.at.row_of_northing-requires c).Start) (bits_is read.type_inv ∙ read.ensures.0) c.if-z-y0_of.false, rw (z_is (goal.at.row_of_northing-requires c).Start) p.1)
+    (some_below_it _ c.args.sheet.known.passes _ _ _ (z_is (goal.at.row_of_northing-requires c).Start) (bits_is read.type_inv ∙ read.ensures.0) c.if-z-y0_of.false, rw (z_is (goal.at.row_of_northing-requires c).Start) c.requires)
 
 pub returns : goal.returns
 unfolding row_of

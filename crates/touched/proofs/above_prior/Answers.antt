@@ -21,7 +21,7 @@ returns c =
     from-least _ _ _ _ _ same c.if-r-gt0.false (difference (y0_held c.y0_of-2.type_inv c.y0_of-2.ensures) (held_literal w64 most_rise tt) tt).is
 
 pub y0_of-requires-2 : goal.y0_of-requires-2
-y0_of-requires-2 c = let p = c.requires in (p.0, omega (arith, two_rows _ p.0.passes, c.if-r-gt0.false))
+y0_of-requires-2 c = omega (arith, two_rows _ c.args.sheet.known.passes, c.if-r-gt0.false)
 
 pub overflow_sub-result : goal.overflow_sub-result
 overflow_sub-result c = difference_fits (y0_held c.y0_of-2.type_inv c.y0_of-2.ensures) (held_literal w64 most_rise tt) tt

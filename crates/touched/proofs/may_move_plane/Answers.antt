@@ -14,10 +14,10 @@ use Rattle.touched.proofs.may_move_plane.Goals.{After-latitude_known, After-long
 north_is : (c : Start) → to_z w32 (of_z w32 c.args.latitude) ≡ c.args.latitude
 north_is c = search rules
 
-latitude_is : (c : After-latitude_known) → let args = c.args in c.latitude_known.result ≡ latitude_known args.s.now args.latitude
+latitude_is : (c : After-latitude_known) → let args = c.args in c.latitude_known.result ≡ latitude_known args.sheet.bytes.now args.latitude
 latitude_is c = c.latitude_known.ensures ∙ ap (latitude_known _) (north_is (goal.at.After-latitude_known c).Start)
 
-longitude_is : (c : After-longitude_known) → let args = c.args in c.longitude_known.result ≡ longitude_known args.s.now args.longitude
+longitude_is : (c : After-longitude_known) → let args = c.args in c.longitude_known.result ≡ longitude_known args.sheet.bytes.now args.longitude
 longitude_is c =
     let args = c.args in
     let same : to_z w32 (of_z w32 args.longitude) ≡ args.longitude = search rules in
