@@ -53,10 +53,14 @@ module _ {A : Type 0} {w : Way A} {room : ℕ} {buffer : List ℕ} {from to : �
     pub rest : slice i to buffer ≡ unended (slice from to buffer)
     pub all : Wrote old out 0 at (answers w a (ended_lines (slice from to buffer)))
     pub end_state : b ≡ after w a (ended_lines (slice from to buffer))
+    pub fits : at ≤ room * to
 
   pub finished : to ≤ end → end ≤ to → Finished
   unfolding answers after
   finished h k =
       let n = line_open buffer i to end long e g.inside h k in
       let t : g.text ≡ answers w a (ended_lines (slice from to buffer)) = sym (append-nil g.text) ∙ rw n.lines at g.those in
-      record { rest = sym n.left ∙ g.left; all = rw t at g.wrote; end_state = rw n.lines at g.state }
+      record { rest = sym n.left ∙ g.left; all = rw t at g.wrote; end_state = rw n.lines at g.state; fits = fits }
+    where
+      fits : at ≤ room * to
+      fits = let m : room * i ≤ room * to = mul-le-mul_left room g.inside in omega (arith, m, g.far)
