@@ -2,23 +2,15 @@
 #![tactic(auto)]
 
 ghost use Rattle.std.specs.Prelude.{◌≡◌, ◌+◌, ◌≤◌, length};
-ghost use Rattle.sheet_check.specs.Check.{KnownToPass};
 ghost use Rattle.decimal.specs.Writing.{Wrote};
 ghost use Rattle.point_line.specs.PointLine.{is_form, line_of};
 ghost use Rattle.differing.specs.Differing.{differing_rows};
 ghost use Rattle.reached.specs.Reached.{reaches};
 ghost use Rattle.compared.specs.Compared.{same_values, changes, values_text, change_line, change_text, compared_text, change_room};
 
-use entries::Places;
 use lines::Values;
 use point_line::BLANK;
-
-// Where each sheet's bodies lie.
-#[derive(Clone, Copy)]
-pub struct BothPlaces {
-    pub old: Places,
-    pub new: Places,
-}
+use tables::Passed;
 
 // What a line is on two sheets: whether it is of a known form, whether its answer changes, whether the rows in which the sheets differ may touch it, and the place after what was written.
 #[derive(Clone, Copy)]
@@ -76,31 +68,30 @@ fn put_where(changed: bool, out: &mut [u8], at: usize, n: u64, v: Values, w: Val
     put_change(out, at, n, v, w)
 }
 
-// Line n, asked of both sheets, which are known to pass, with their places: what it is on them, and where its answer changes both answers from `at` on.
+// Line n, asked of both sheets, which are known to pass: what it is on them, and where its answer changes both answers from `at` on.
 pub fn compare_line(
-    old: &[u8],
-    new: &[u8],
-    places: BothPlaces,
+    old: Passed,
+    new: Passed,
     line: &[u8],
     n: u64,
     out: &mut [u8],
     at: usize,
 ) -> Compared
-    requires { KnownToPass old.now places.old × KnownToPass new.now places.new × (at + change_room ≤ length out.old) }
+    requires { at + change_room ≤ length out.old }
     ensures point { result.point ≡ is_form (line_of line.now).form }
-    ensures changed { result.changed ≡ changes old.now new.now (line_of line.now) }
-    ensures reached { result.reached ≡ reaches old.now new.now (line_of line.now) (differing_rows old.now new.now) }
-    ensures text { (result.next ≤ at + change_room) × Wrote out.old out.new at result.next (compared_text old.now new.now n (line_of line.now)) }
+    ensures changed { result.changed ≡ changes old.entry.bytes.now new.entry.bytes.now (line_of line.now) }
+    ensures reached { result.reached ≡ reaches old.entry.bytes.now new.entry.bytes.now (line_of line.now) (differing_rows old.entry.bytes.now new.entry.bytes.now) }
+    ensures text { (result.next ≤ at + change_room) × Wrote out.old out.new at result.next (compared_text old.entry.bytes.now new.entry.bytes.now n (line_of line.now)) }
 {
     let l = point_line::line_of(line);
-    let v = lines::values_of(old, places.old, l);
-    let w = lines::values_of(new, places.new, l);
+    let v = lines::values_of(old, l);
+    let w = lines::values_of(new, l);
     let changed = !same_values(v, w);
     let next = put_where(changed, out, at, n, v, w);
     Compared {
         point: point_line::is_form(l.form),
         changed,
-        reached: reached::is_reached(old, places.old, new, places.new, l),
+        reached: reached::is_reached(old, new, l),
         next,
     }
 }

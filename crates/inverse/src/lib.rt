@@ -1,4 +1,4 @@
-// Plane to geographic, on a sheet known to pass, with its places in hand: 12, 13, 14, 11, or latitude and longitude.
+// Plane to geographic, on a sheet that passes: 12, 13, 14, 11, or latitude and longitude.
 #![tactic(auto)]
 
 ghost use Rattle.std.specs.Prelude.{◌≡◌, true, ◌+◌, ◌-◌, ◌*◌, ◌^◌, ◌<◌, ◌≤◌, min, T, pos, nat_abs, ◌-ℤ◌, ◌*ℤ◌};
@@ -7,9 +7,8 @@ ghost use Rattle.rounding.specs.Ranges.{most_gap, most_p, most_d, most_x, most_a
 ghost use Rattle.steps.specs.Steps.{approximate_l_half};
 ghost use Rattle.entries.specs.Layout.{latitude, longitude, northing, easting, one_minute};
 ghost use Rattle.entries.specs.Entries.{rows_of, step_of, Within};
-ghost use Rattle.sheet_check.specs.Check.{check_of, KnownToPass};
 ghost use Rattle.reading.specs.Tables.{offset_of};
-ghost use Rattle.tables.specs.Figures.{InTable, origin_of, b_at, b_half, p_at, p_half, d_at, d_half};
+ghost use Rattle.tables.specs.Figures.{InTable, b_at, b_half, p_at, p_half, d_at, d_half};
 ghost use Rattle.extent.specs.Extent.{size_known, easting_known, northing_known, reduced_known};
 ghost use Rattle.inverse.specs.Inverse.{reduced_northing, reduced_half, row_of, distance_of, distance_half, size_of, size_half, geographic_at, from_distance, from_reduced, inverse_of, for_reduction, reduced_by, reduced_by_half, seconds_by, seconds_by_half, taken_at, approximate_by, size_by, size_by_half};
 
@@ -246,7 +245,7 @@ fn from_reduced(sheet: Passed, xp: i64, reduced: i64, met: bool) -> Geographic
     from_distance(sheet, xp, at, met | seconds.half)
 }
 
-// Plane to geographic: 12, 13, 14, 11, or latitude and longitude. The origin is read once: x' and the answer are both measured from it.
+// Plane to geographic: 12, 13, 14, 11, or latitude and longitude.
 pub fn inverse(sheet: Passed, x: i32, y: i32) -> Geographic
     ensures { result ≡ inverse_of sheet.entry.bytes.now x y }
 {

@@ -5,7 +5,7 @@ use borrow.Author.Rules.{rules}
 use Rattle.inverse.proofs.b_at.Goals as goal
 
 pub b_by-requires : goal.b_by-requires
-b_by-requires c = search (longitude-placed, found_step, rules)
+b_by-requires c = let known = c.args.sheet.known in search (longitude-placed, found_step, rules)
 
 pub b_by-requires-2 : goal.b_by-requires-2
-b_by-requires-2 c = search (longitude-placed, place-step, rules)
+b_by-requires-2 c = let known = c.args.sheet.known in search (longitude-placed, place-step, rules)

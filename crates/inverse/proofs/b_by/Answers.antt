@@ -1,7 +1,5 @@
 -- `inverse::b_by` meets its contract. Assumes nothing.
 use mathlib.Core.Path.{ap, ◌∙◌}
-use lib.Dec.{lit≤}
-use Rattle.sheet_check.proofs.Known.{longitude-placed}
 use Rattle.tables.specs.Figures.{b_at, b_half}
 use Rattle.inverse.proofs.b_by.Goals as goal
 
@@ -10,6 +8,3 @@ returns c =
     let at = c.position-at.ensures.1 in
     let b = c.b_at.ensures in
     (b.0 ∙ ap (b_at _) at, b.1, b.2 ∙ ap (b_half _) at)
-
-pub position-at-requires : goal.position-at-requires
-position-at-requires c = let p = c.requires in (longitude-placed _ _ p.0, lit≤ tt, p.1, p.2)

@@ -1,7 +1,5 @@
 -- `inverse::d_by` meets its contract. Assumes nothing.
 use mathlib.Core.Path.{ap, ◌∙◌}
-use lib.Dec.{lit≤}
-use Rattle.sheet_check.proofs.Known.{easting-placed}
 use Rattle.tables.specs.Figures.{d_at, d_half}
 use Rattle.inverse.proofs.d_by.Goals as goal
 
@@ -10,6 +8,3 @@ returns c =
     let at = c.position-at.ensures.1 in
     let r = c.d_at.ensures in
     (r.0 ∙ ap (d_at _) at, r.1, r.2 ∙ ap (d_half _) at)
-
-pub position-at-requires : goal.position-at-requires
-position-at-requires c = let p = c.requires in (easting-placed _ _ p.0, lit≤ tt, p.1, p.2)

@@ -28,11 +28,11 @@ module _ (c : Start) where
   xp_is : to_z w64 (of_z w64 c.args.xp) ≡ c.args.xp
   xp_is = search rules
 
-  x_within : Within c.args.s.now easting (nat_abs c.args.xp)
-  x_within = easting-within _ _ c.requires.2
+  x_within : Within c.args.sheet.bytes.now easting (nat_abs c.args.xp)
+  x_within = easting-within _ _ c.requires.0
 
-  t_within : Within c.args.s.now latitude (offset_of c.args.at)
-  t_within = table_within _ _ _ c.requires.3
+  t_within : Within c.args.sheet.bytes.now latitude (offset_of c.args.at)
+  t_within = table_within _ _ _ c.requires.1
 
 x_is : (c : After-size-x) → c.size-x.result ≡ nat_abs c.args.xp
 x_is c = c.size-x.ensures ∙ ap nat_abs (xp_is (goal.at.After-size-x c).Start)
@@ -42,22 +42,22 @@ module _ (c : After-approximate_of-approximate) where
   abbrev start : Start
   start = (goal.at.After-approximate_of-approximate c).Start
 
-  approximate_is : let args = start.args in c.approximate_of-approximate.result.value ≡ approximate_of args.s.now (nat_abs args.xp) (offset_of args.at)
+  approximate_is : let args = start.args in c.approximate_of-approximate.result.value ≡ approximate_of args.sheet.bytes.now (nat_abs args.xp) (offset_of args.at)
   approximate_is = c.approximate_of-approximate.ensures.0 ∙ approximate_halves _ _ _ c.h_at.ensures.0 (x_is (goal.at.After-approximate_of-approximate c).After-size-x)
 
-  approximate_half : let args = start.args in c.approximate_of-approximate.result.half ≡ approximate_l_half (nat_abs args.xp) (h_at args.s.now (offset_of args.at))
+  approximate_half : let args = start.args in c.approximate_of-approximate.result.half ≡ approximate_l_half (nat_abs args.xp) (h_at args.sheet.bytes.now (offset_of args.at))
   approximate_half = c.approximate_of-approximate.ensures.2 ∙ approximate_half_halves _ _ _ c.h_at.ensures.0 (x_is (goal.at.After-approximate_of-approximate c).After-size-x)
 
 -- its test
 first_known : (c : After-size_known)
     → let args = (start (goal.at.After-size_known c).After-approximate_of-approximate).args in
-    c.size_known.result ≡ size_known args.s.now (pos (approximate_of args.s.now (nat_abs args.xp) (offset_of args.at)))
+    c.size_known.result ≡ size_known args.sheet.bytes.now (pos (approximate_of args.sheet.bytes.now (nat_abs args.xp) (offset_of args.at)))
 first_known c =
     c.size_known.ensures ∙ ap (size_known _) ((held_size w64 c.approximate_of-approximate.ensures.1 tt).is ∙ ap pos (approximate_is (goal.at.After-size_known c).After-approximate_of-approximate))
 
 approximate_there : (c : Else-not-size_known)
     → let args = (start (goal.at.Else-not-size_known c).After-approximate_of-approximate).args in
-    size_known args.s.now (pos (approximate_of args.s.now (nat_abs args.xp) (offset_of args.at))) ≡ true
+    size_known args.sheet.bytes.now (pos (approximate_of args.sheet.bytes.now (nat_abs args.xp) (offset_of args.at))) ≡ true
 approximate_there c = kept _ _ (first_known (goal.at.Else-not-size_known c).After-size_known) c.if-not-size_known.false
 
 -- the size of L
@@ -65,7 +65,7 @@ pub size_of-size-requires : goal.size_of-size-requires
 size_of-size-requires c =
     let taken = c.taken_at.ensures in
     let from = start (goal.at.size_of-size-requires c).After-approximate_of-approximate in
-    let z = from.requires.0.passes in
+    let z = from.args.sheet.known.passes in
     let x = x_is (goal.at.size_of-size-requires c).After-size-x in
     let b = c.b_at-b.ensures in (
       rw x (x_small _ z _ _ (x_within from) (t_within from)),
@@ -83,16 +83,16 @@ module _ (c : After-size_of-size) where
   size_bits : to_z w64 (of_z w64 c.size_of-size.result.value) ≡ c.size_of-size.result.value
   size_bits = search rules
 
-  size_is : let args = (start (goal.at.After-size_of-size c).After-approximate_of-approximate).args in c.size_of-size.result.value ≡ size_of args.s.now (nat_abs args.xp) (offset_of args.at)
+  size_is : let args = (start (goal.at.After-size_of-size c).After-approximate_of-approximate).args in c.size_of-size.result.value ≡ size_of args.sheet.bytes.now (nat_abs args.xp) (offset_of args.at)
   size_is = c.size_of-size.ensures.0 ∙ size_halves _ _ _ _ c.taken_at.ensures.0 (x_is (goal.at.After-size_of-size c).After-size-x) (approximate_is (goal.at.After-size_of-size c).After-approximate_of-approximate) c.b_at-b.result c.b_at-b.ensures.0
 
-  half_is : let args = (start (goal.at.After-size_of-size c).After-approximate_of-approximate).args in c.size_of-size.result.half ≡ size_half args.s.now (nat_abs args.xp) (offset_of args.at)
+  half_is : let args = (start (goal.at.After-size_of-size c).After-approximate_of-approximate).args in c.size_of-size.result.half ≡ size_half args.sheet.bytes.now (nat_abs args.xp) (offset_of args.at)
   half_is =
       c.size_of-size.ensures.1
       ∙ size_half_halves _ _ _ _ c.taken_at.ensures.0 (x_is (goal.at.After-size_of-size c).After-size-x) (approximate_is (goal.at.After-size_of-size c).After-approximate_of-approximate) c.b_at-b.result c.b_at-b.ensures.0 (approximate_half (goal.at.After-size_of-size c).After-approximate_of-approximate) c.b_at-b.ensures.2
 
 second_known : (c : After-size_known-2)
-    → let args = (start (worked (goal.at.After-size_known-2 c).After-size_of-size)).args in c.size_known-2.result ≡ size_known args.s.now (size_of args.s.now (nat_abs args.xp) (offset_of args.at))
+    → let args = (start (worked (goal.at.After-size_known-2 c).After-size_of-size)).args in c.size_known-2.result ≡ size_known args.sheet.bytes.now (size_of args.sheet.bytes.now (nat_abs args.xp) (offset_of args.at))
 second_known c = c.size_known-2.ensures ∙ ap (size_known _) (size_bits (goal.at.After-size_known-2 c).After-size_of-size ∙ size_is (goal.at.After-size_known-2 c).After-size_of-size)
 
 pub returns-then-not-size_known : goal.returns-then-not-size_known
@@ -115,16 +115,13 @@ pub geographic_at-requires : goal.geographic_at-requires
 geographic_at-requires c =
     let from = start (worked (goal.at.geographic_at-requires c).After-size_of-size) in
     let known = rw (size_bits (goal.at.geographic_at-requires c).After-size_of-size) at (kept _ _ c.size_known-2.ensures c.if-not-size_known-2.false) in
-    (from.requires.0.passes, from.requires.1, from.requires.3, rw (xp_is from) (size_is (goal.at.geographic_at-requires c).After-size_of-size), known, rw (xp_is from) (half_is (goal.at.geographic_at-requires c).After-size_of-size))
+    (from.requires.1, rw (xp_is from) (size_is (goal.at.geographic_at-requires c).After-size_of-size), known, rw (xp_is from) (half_is (goal.at.geographic_at-requires c).After-size_of-size))
 
 pub size-x-requires : goal.size-x-requires
-size-x-requires c = size_small (xp_is (goal.at.size-x-requires c).Start) (le_trans (x_within (goal.at.size-x-requires c).Start).most (le_trans (easting_span _ c.requires.0.passes) (lit≤ tt)))
+size-x-requires c = size_small (xp_is (goal.at.size-x-requires c).Start) (le_trans (x_within (goal.at.size-x-requires c).Start).most (le_trans (easting_span _ c.args.sheet.known.passes) (lit≤ tt)))
 
 pub approximate_of-approximate-requires : goal.approximate_of-approximate-requires
-approximate_of-approximate-requires c = (rw (x_is (goal.at.approximate_of-approximate-requires c).After-size-x) (x_small _ c.requires.0.passes _ _ (x_within (goal.at.approximate_of-approximate-requires c).Start) (t_within (goal.at.approximate_of-approximate-requires c).Start)), c.h_at.ensures.1, c.h_at.ensures.2)
+approximate_of-approximate-requires c = (rw (x_is (goal.at.approximate_of-approximate-requires c).After-size-x) (x_small _ c.args.sheet.known.passes _ _ (x_within (goal.at.approximate_of-approximate-requires c).Start) (t_within (goal.at.approximate_of-approximate-requires c).Start)), c.h_at.ensures.1, c.h_at.ensures.2)
 
 pub b_at-b-requires : goal.b_at-b-requires
-b_at-b-requires c = ((start (goal.at.b_at-b-requires c).After-approximate_of-approximate).requires.0, rw (approximate_is (goal.at.b_at-b-requires c).After-approximate_of-approximate) (size_within _ _ (approximate_there c)))
-
-pub size_known-requires-2 : goal.size_known-requires-2
-size_known-requires-2 c = (start (worked (goal.at.size_known-requires-2 c).After-size_of-size)).requires.0
+b_at-b-requires c = rw (approximate_is (goal.at.b_at-b-requires c).After-approximate_of-approximate) (size_within _ _ (approximate_there c))

@@ -27,40 +27,40 @@ use Rattle.inverse.proofs.geographic_at.Goals.{After-struct_told-1, After-with_s
 
 -- the latitude, and the longitude, as they were worked
 distance_most : (c : Start) → offset_of c.args.at ≤ farthest latitude
-distance_most c = le_trans (minutes_most _ c.requires.0 _ (table_within _ _ _ c.requires.2)) (latitude_span _ c.requires.0)
+distance_most c = le_trans (minutes_most _ c.args.sheet.known.passes _ (table_within _ _ _ c.requires.0)) (latitude_span _ c.args.sheet.known.passes)
 
 distance : (c : Start) → Holds w64 (offset_of c.args.at) (pos (offset_of c.args.at)) (farthest latitude)
 distance c = held_size w64 (distance_most c) tt
 
-first : (c : Start) → Holds w64 (of_z w64 c.args.o.first_latitude) (first_latitude_of c.args.s.now) 324_000_000
-first c = first_held _ c.requires.0 _ c.requires.1
+first : (c : Start) → Holds w64 (of_z w64 c.args.sheet.origin.first_latitude) (first_latitude_of c.args.sheet.bytes.now) 324_000_000
+first c = first_held _ c.args.sheet.known.passes _ c.args.sheet.measured
 
-central : (c : Start) → Holds w64 (of_z w64 c.args.o.central_meridian) (central_meridian_of c.args.s.now) 642_000_000
-central c = central_held _ c.requires.0 _ c.requires.1
+central : (c : Start) → Holds w64 (of_z w64 c.args.sheet.origin.central_meridian) (central_meridian_of c.args.sheet.bytes.now) 642_000_000
+central c = central_held _ c.args.sheet.known.passes _ c.args.sheet.measured
 
 size_is : (c : Start) → to_z w64 (of_z w64 c.args.size.value) ≡ c.args.size.value
 size_is c = search rules
 
 size_small : (c : Start) → nat_abs c.args.size.value ≤ most_s
-size_small c = le_trans (size_reach _ _ c.requires.4).high (longitude_span _ c.requires.0)
+size_small c = le_trans (size_reach _ _ c.requires.2).high (longitude_span _ c.args.sheet.known.passes)
 
 -- L, with its sign
 module _ (c : After-with_sign) where
   abbrev start : Start
   start = (goal.at.After-with_sign c).Start
 
-  l_held : let args = start.args in Holds w64 (of_z w64 c.with_sign.result) (with_sign args.xp (size_of args.s.now (nat_abs args.xp) (offset_of args.at))) most_s
+  l_held : let args = start.args in Holds w64 (of_z w64 c.with_sign.result) (with_sign args.xp (size_of args.sheet.bytes.now (nat_abs args.xp) (offset_of args.at))) most_s
   l_held =
       let xp : to_z w64 (of_z w64 start.args.xp) ≡ start.args.xp = search rules in
-      let same = both-same with_sign xp (size_is (goal.at.After-with_sign c).Start ∙ start.requires.3) in
-      bits_hold c.with_sign.type_inv (c.with_sign.ensures ∙ same) (rw (size_with_sign, ← start.requires.3) (size_small (goal.at.After-with_sign c).Start))
+      let same = both-same with_sign xp (size_is (goal.at.After-with_sign c).Start ∙ start.requires.1) in
+      bits_hold c.with_sign.type_inv (c.with_sign.ensures ∙ same) (rw (size_with_sign, ← start.requires.1) (size_small (goal.at.After-with_sign c).Start))
 
 pub returns : goal.returns
 unfolding longitude_of
 returns c =
     let north = cast (sum (first (start (goal.at.returns c).After-with_sign)) (distance (start (goal.at.returns c).After-with_sign)) tt) {v = w32} tt in
     let west = cast (difference (central (start (goal.at.returns c).After-with_sign)) (l_held (goal.at.returns c).After-with_sign) tt) {v = w32} tt in
-    geographic-worked _ _ _ _ north.is refl west.is refl (start (goal.at.returns c).After-with_sign).requires.5
+    geographic-worked _ _ _ _ north.is refl west.is refl (start (goal.at.returns c).After-with_sign).requires.3
 
 -- the place before a need
 module _ (c : After-struct_told-1) where

@@ -19,26 +19,26 @@ x_is c = search rules
 y_is : (c : Start) → to_z w32 (of_z w32 c.args.y) ≡ c.args.y
 y_is c = search rules
 
-xp_is : (c : After-x_prime-xp) → to_z w64 (of_z w64 c.x_prime-xp.result) ≡ x_prime c.args.s.now c.args.x
+xp_is : (c : After-x_prime-xp) → to_z w64 (of_z w64 c.x_prime-xp.result) ≡ x_prime c.args.sheet.bytes.now c.args.x
 xp_is c = bits_is c.x_prime-xp.type_inv ∙ c.x_prime-xp.ensures.0 ∙ ap (x_prime _) (x_is (goal.at.After-x_prime-xp c).Start)
 
-easting-known_is : (c : After-easting_known) → let args = c.args in c.easting_known.result ≡ easting_known args.s.now (x_prime args.s.now args.x)
+easting-known_is : (c : After-easting_known) → let args = c.args in c.easting_known.result ≡ easting_known args.sheet.bytes.now (x_prime args.sheet.bytes.now args.x)
 easting-known_is c = c.easting_known.ensures ∙ ap (easting_known _) (xp_is (goal.at.After-easting_known c).After-x_prime-xp)
 
-northing_is : (c : After-northing_known) → let args = c.args in c.northing_known.result ≡ northing_known args.s.now args.y
+northing_is : (c : After-northing_known) → let args = c.args in c.northing_known.result ≡ northing_known args.sheet.bytes.now args.y
 northing_is c = c.northing_known.ensures ∙ ap (northing_known _) (y_is (goal.at.After-northing_known c).Start)
 
 module _ (c : After-reduced_northing-reduced) where
   reduced_bits : to_z w64 (of_z w64 c.reduced_northing-reduced.result.value) ≡ c.reduced_northing-reduced.result.value
   reduced_bits = search rules
 
-  x_size : let args = c.args in c.size.result ≡ nat_abs (x_prime args.s.now args.x)
+  x_size : let args = c.args in c.size.result ≡ nat_abs (x_prime args.sheet.bytes.now args.x)
   x_size = c.size.ensures ∙ ap nat_abs (xp_is (goal.at.After-reduced_northing-reduced c).After-x_prime-xp)
 
-  reduced_is : let args = c.args in to_z w64 (of_z w64 c.reduced_northing-reduced.result.value) ≡ reduced_northing args.s.now (nat_abs (x_prime args.s.now args.x)) args.y
+  reduced_is : let args = c.args in to_z w64 (of_z w64 c.reduced_northing-reduced.result.value) ≡ reduced_northing args.sheet.bytes.now (nat_abs (x_prime args.sheet.bytes.now args.x)) args.y
   reduced_is = reduced_bits ∙ c.reduced_northing-reduced.ensures.0 ∙ rw (x_size, y_is (goal.at.After-reduced_northing-reduced c).Start)
 
-  half_is : let args = c.args in c.reduced_northing-reduced.result.half ≡ reduced_half args.s.now (nat_abs (x_prime args.s.now args.x)) args.y
+  half_is : let args = c.args in c.reduced_northing-reduced.result.half ≡ reduced_half args.sheet.bytes.now (nat_abs (x_prime args.sheet.bytes.now args.x)) args.y
   half_is = c.reduced_northing-reduced.ensures.2 ∙ rw (x_size, y_is (goal.at.After-reduced_northing-reduced c).Start)
 
 pub returns-then-not-easting_known : goal.returns-then-not-easting_known
@@ -61,13 +61,10 @@ size-requires c = let xp = c.x_prime-xp in bits_below xp.result xp.type_inv xp.e
 
 pub reduced_northing-reduced-requires : goal.reduced_northing-reduced-requires
 reduced_northing-reduced-requires c =
-    let p = c.requires in
     let easting = kept _ _ c.easting_known.ensures c.if-not-easting_known.false in
-    (p, rw c.size.ensures (easting-within _ _ easting), kept _ _ c.northing_known.ensures c.if-not-northing_known.false)
+    (rw c.size.ensures (easting-within _ _ easting), kept _ _ c.northing_known.ensures c.if-not-northing_known.false)
 
 pub from_reduced-requires : goal.from_reduced-requires
 from_reduced-requires c =
-    let p = c.requires in
-    let origin = c.origin_of-o.ensures in
     let easting = kept _ _ c.easting_known.ensures c.if-not-easting_known.false in
-    (p, origin, easting, rw (reduced_bits (goal.at.from_reduced-requires c).After-reduced_northing-reduced) c.reduced_northing-reduced.ensures.1)
+    (easting, rw (reduced_bits (goal.at.from_reduced-requires c).After-reduced_northing-reduced) c.reduced_northing-reduced.ensures.1)

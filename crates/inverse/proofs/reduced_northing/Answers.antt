@@ -23,4 +23,4 @@ returns c =
     )
 
 pub reduced_of-requires : goal.reduced_of-requires
-reduced_of-requires c = let p = c.requires in (c.for_reduction.ensures.1, le_trans p.1.most (le_trans (easting_span _ p.0.passes) (lit≤ tt)), c.for_reduction.ensures.2)
+reduced_of-requires c = (c.for_reduction.ensures.1, le_trans c.requires.0.most (le_trans (easting_span _ c.args.sheet.known.passes) (lit≤ tt)), c.for_reduction.ensures.2)

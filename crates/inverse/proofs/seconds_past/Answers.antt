@@ -15,19 +15,19 @@ pub returns : goal.returns
 returns c =
     let y0 = c.y0_of-y0 in
     let p = c.requires in
-    seconds_are _ p.0.passes _ p.1 _ p.2 _ _ _ (bits_is y0.type_inv ∙ y0.ensures.0) (bits_is c.y0_of.type_inv ∙ c.y0_of.ensures.0) (reduced_is (goal.at.returns c).Start) _ _ c.seconds_between.ensures.0 c.seconds_between.ensures.1
+    seconds_are _ c.args.sheet.known.passes _ p.0 _ p.1 _ _ _ (bits_is y0.type_inv ∙ y0.ensures.0) (bits_is c.y0_of.type_inv ∙ c.y0_of.ensures.0) (reduced_is (goal.at.returns c).Start) _ _ c.seconds_between.ensures.0 c.seconds_between.ensures.1
 
 pub seconds_between-requires : goal.seconds_between-requires
 seconds_between-requires c =
     let y0 = c.y0_of-y0 in
     let p = c.requires in
-    seconds_ask _ p.0.passes _ p.1 _ p.2 _ _ _ (bits_is y0.type_inv ∙ y0.ensures.0) (bits_is c.y0_of.type_inv ∙ c.y0_of.ensures.0) (reduced_is (goal.at.seconds_between-requires c).Start)
+    seconds_ask _ c.args.sheet.known.passes _ p.0 _ p.1 _ _ _ (bits_is y0.type_inv ∙ y0.ensures.0) (bits_is c.y0_of.type_inv ∙ c.y0_of.ensures.0) (reduced_is (goal.at.seconds_between-requires c).Start)
 
 pub y0_of-y0-requires : goal.y0_of-y0-requires
-y0_of-y0-requires c = let p = c.requires in (p.0, row_below _ p.0.passes _ p.1 _ p.2)
+y0_of-y0-requires c = let p = c.requires in row_below _ c.args.sheet.known.passes _ p.0 _ p.1
 
 pub overflow_add-row : goal.overflow_add-row
-overflow_add-row c = let p = c.requires in next_fits _ p.0.passes _ p.1 _ p.2
+overflow_add-row c = let p = c.requires in next_fits _ c.args.sheet.known.passes _ p.0 _ p.1
 
 pub y0_of-requires : goal.y0_of-requires
-y0_of-requires c = let p = c.requires in (p.0, next_there _ p.0.passes _ p.1 _ p.2)
+y0_of-requires c = let p = c.requires in next_there _ c.args.sheet.known.passes _ p.0 _ p.1
