@@ -76,8 +76,15 @@ pub trait Answers {
 
 // ---- a block of lines
 
-// Answers the lines that are held and have ended; how many bytes are answers. The rest begins at `kept`: the line that has not ended. A line takes a byte or more, its line feed, so
-// that an output with room for an answer to each byte has room for all.
+// Where the line that has not ended begins, how many bytes of answers stand at the output's front, and the state after them.
+#[derive(Clone, Copy)]
+struct Lines<S> {
+    rest: usize,
+    at: usize,
+    state: S,
+}
+
+// Answers the lines that are held and have ended. A line takes a byte or more, its line feed, so that an output with room for an answer to each byte has room for all.
 fn answer_lines<A: Answers>(
     by: &A,
     buffer: &[u8],
@@ -102,14 +109,6 @@ fn answer_lines<A: Answers>(
         end = stream::line_end(buffer, i, to);
     }
     Lines { rest: i, at, state }
-}
-
-// Where the line that has not ended begins, how many bytes of answers stand at the output's front, and the state after them.
-#[derive(Clone, Copy)]
-struct Lines<S> {
-    rest: usize,
-    at: usize,
-    state: S,
 }
 
 // Answers the lines that are held and have ended, and keeps the one that has not.
