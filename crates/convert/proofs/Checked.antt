@@ -1,15 +1,10 @@
 -- A conversion on a sheet that passes the check is what comes after the check, and on another sheet the check's number. Assumes nothing.
 use mathlib.Core.Path.{◌≡◌, refl, sym, ◌∙◌}
 use mathlib.Core.List.{List}
-use Prim.Native.Nat.{ℕ, ◌≤◌}
+use Prim.Native.Nat.{ℕ}
 use lib.IntN.{ℤ}
-use lib.ListN.{length}
 use Rattle.refusals.proofs.Ladders.{refused, passed_on}
-use Rattle.entries.specs.Layout.{least_bytes}
-use Rattle.entries.specs.Entries.{form_of}
-use Rattle.contents.proofs.Passing.{passed}
 use Rattle.sheet_check.specs.Check.{check_of}
-use Rattle.sheet_check.proofs.Known.{contents-none}
 use Rattle.forward.specs.declared.Plane.{Plane}
 use Rattle.inverse.specs.declared.Geographic.{Geographic}
 use Rattle.convergence.specs.declared.Grid.{Grid}
@@ -28,10 +23,6 @@ module _ {A : Type 0} (number : A → ℕ) (refuse : ℕ → A) (carries : (n : 
 
   pub after-fault : (n : ℕ) → n ≡ (check_of s).number → (n ≡ 0 → ⊥) → refuse n ≡ after_check number refuse s rest
   after-fault n e h = refused number (refuse (check_of s).number) rest (refuse n) (rw e) (λ k. h (sym (carries n) ∙ k))
-
--- ---- a sheet that passes has its contents
-pub sheet_long : (s : List ℕ) → (check_of s).number ≡ 0 → least_bytes (form_of s) ≤ length s
-sheet_long s z = (passed s (contents-none s z)).long
 
 -- ---- each conversion
 module _ (s : List ℕ) (a b : ℤ) where

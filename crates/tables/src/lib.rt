@@ -142,7 +142,7 @@ pub fn origin_of(sheet: &[u8], p: Places) -> Origin
 // A sheet known to pass, with its places and its origin.
 pub fn known<'a>(sheet: &'a [u8], places: Places) -> Passed<'a>
     requires { KnownToPass sheet.now places }
-    ensures { result.bytes ≡ sheet.entry }
+    ensures { result.bytes.now ≡ sheet.now }
 {
     Passed {
         bytes: sheet,
@@ -153,7 +153,7 @@ pub fn known<'a>(sheet: &'a [u8], places: Places) -> Passed<'a>
 
 // The sheet where it passes the check; else the check's answer.
 pub fn pass<'a>(sheet: &'a [u8]) -> Result<Passed<'a>, Verdict>
-    ensures { MatchResult result (λ p. p.bytes ≡ sheet.entry) (λ v. (v ≡ check_of sheet.now) × (v.number ≢ 0)) }
+    ensures { MatchResult result (λ p. p.bytes.now ≡ sheet.now) (λ v. (v ≡ check_of sheet.now) × (v.number ≢ 0)) }
 {
     let verdict = sheet_check::check(sheet);
     if verdict.number != 0 {
