@@ -1,3 +1,2 @@
-pub mod Working
 pub mod Answering
 pub mod Printing

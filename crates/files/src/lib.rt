@@ -2,7 +2,7 @@
 // readers say how far they reach; `read_on` and the reads under it also say that what stood before stays. Where the system refuses, standard error says why.
 #![tactic(auto)]
 
-ghost use Rattle.std.specs.Prelude.{◌≡◌, true, ◌++◌, map, ◌+◌, ◌<◌, ◌≤◌, length, take, drop, IfOk, IsUtf8, MatchResult};
+ghost use Rattle.std.specs.Prelude.{◌≡◌, true, ◌++◌, map, ◌+◌, ◌<◌, ◌≤◌, length, take, drop, IfOk, IfSome, IsUtf8, MatchResult};
 ghost use Rattle.files.specs.Shown.{shown_byte};
 
 use std::fs::File;
@@ -277,30 +277,18 @@ pub fn load(rt: &HostRuntime, name: &[u8], sheet: &mut [u8]) -> usize
 
 // ---- standard input
 
-// What the buffer holds after a read: its first `to` bytes, and whether the read failed.
-#[derive(Clone, Copy)]
-pub struct More {
-    pub to: usize,
-    pub failed: bool,
-}
-
-// Reads more of standard input behind the buffer's first n bytes, which stay as they were. It holds n bytes still where the input has ended, and where the read failed. There has to be room: a read
-// of none would pass for the input's end.
-pub fn read_on(rt: &HostRuntime, input: &mut [u8], n: usize) -> More
+// Reads more of standard input behind the buffer's first n bytes, which stay as they were: how many bytes it holds then, n still where the input has ended. None where the read failed, and standard error
+// says why. There has to be room: a read of none would pass for the input's end.
+pub fn read_on(rt: &HostRuntime, input: &mut [u8], n: usize) -> Option<usize>
     requires { n < length input.old }
-    ensures { (n ≤ result.to) × (result.to ≤ length input.new) × (take n input.new ≡ take n input.old) × (result.failed ≡ true → result.to ≡ n) }
+    ensures within { IfSome result (λ to. (n ≤ to) × (to ≤ length input.new)) }
+    ensures stays { take n input.new ≡ take n input.old }
 {
     match read_part(&mut rt.stdin(), input, n) {
-        Ok(count) => More {
-            to: n + count,
-            failed: false,
-        },
+        Ok(count) => Some(n + count),
         Err(e) => {
             explain(rt, b"cannot read standard input", e);
-            More {
-                to: n,
-                failed: true,
-            }
+            None
         }
     }
 }
@@ -336,7 +324,7 @@ pub fn read_line(rt: &HostRuntime, input: &mut [u8], from: usize, to: usize) -> 
         }
         let kept = stream::keep(input, start, n);
         let more = read_on(rt, input, kept);
-        n = more.to;
+        n = more.unwrap_or(kept);
         start = 0;
         if n == kept {
             return Line {
@@ -344,7 +332,7 @@ pub fn read_line(rt: &HostRuntime, input: &mut [u8], from: usize, to: usize) -> 
                 end: n,
                 next: n,
                 to: n,
-                failed: more.failed,
+                failed: more.is_none(),
             };
         }
     }

@@ -3,77 +3,16 @@
 #![tactic(auto)]
 
 ghost use Rattle.std.specs.Prelude.{◌≡◌, ◌*◌, ◌≤◌, ◌<◌, length};
-ghost use Rattle.sheet_check.specs.Check.{KnownToPass};
 ghost use Rattle.lines.specs.Lines.{line_room};
 ghost use Rattle.stream.specs.Stream.{most_kept};
-ghost use Rattle.points.specs.Turn.{Turned};
 
-use blocks::Done;
-use entries::Places;
-use files::More;
+use answering::Held;
+use blocks::Points;
 
 // Room for the input, and for an answer to each of its bytes.
 const INPUT: usize = 16_640;
 
 const OUTPUT: usize = 1_098_240;
-
-// What a turn left, or the first block, and whether the input has ended or its reading failed.
-#[derive(Clone, Copy)]
-struct State {
-    done: Done,
-    ended: bool,
-}
-
-// Takes what was read behind the first `kept` bytes, and answers the lines that have ended; at the input's end, what is left. A line that a failed read cut is not answered.
-fn turn(sheet: &[u8], p: Places, input: &mut [u8], kept: usize, more: More, out: &mut [u8]) -> State
-    requires { KnownToPass sheet.now p × (kept ≤ most_kept) × (most_kept < length input.old) × (kept ≤ more.to) × (more.to ≤ length input.old) × (line_room * length input.old ≤ length out.old) }
-    ensures { Turned sheet.now input.old input.new kept more out.old out.new result }
-{
-    let to = more.to;
-    if kept < to {
-        let done = blocks::answer_block(sheet, p, input, 0, to, out);
-        return State { done, ended: false };
-    }
-    if more.failed {
-        return State {
-            done: Done { kept: 0, at: 0 },
-            ended: true,
-        };
-    }
-    let at = blocks::answer_last(sheet, p, input, kept, out);
-    State {
-        done: Done { kept: 0, at },
-        ended: true,
-    }
-}
-
-// Answers the input from `from` on, of which the bytes to `to` are read, and writes the answers out after each piece. A proved loop has to end, so it counts its turns down from a number that no run
-// uses up.
-fn answer_input(
-    rt: &HostRuntime,
-    sheet: &[u8],
-    p: Places,
-    input: &mut [u8],
-    from: usize,
-    to: usize,
-    out: &mut [u8],
-)
-    requires { KnownToPass sheet.now p × (from ≤ to) × (to ≤ length input.old) × (most_kept < length input.old) × (line_room * length input.old ≤ length out.old) }
-{
-    let done = blocks::answer_block(sheet, p, input, from, to, out);
-    let mut s = State { done, ended: false };
-    let mut turns = u64::MAX;
-    while 0 < turns {
-        let at = s.done.at;
-        if !files::tell(rt, &out[0..at]) | s.ended {
-            return;
-        }
-        let kept = s.done.kept;
-        let more = files::read_on(rt, input, kept);
-        s = turn(sheet, p, input, kept, more, out);
-        turns -= 1;
-    }
-}
 
 // Prints the check's answer and, where it is 0, the answers to the lines behind the name, from `from` on; the bytes to `to` are read.
 fn run(rt: &HostRuntime, sheet: &[u8], input: &mut [u8], from: usize, to: usize, out: &mut [u8])
@@ -88,7 +27,11 @@ fn run(rt: &HostRuntime, sheet: &[u8], input: &mut [u8], from: usize, to: usize,
     if number != 0 {
         return;
     }
-    answer_input(rt, sheet, entries::places_of(sheet), input, from, to, out);
+    let points = Points {
+        sheet: tables::known(sheet, entries::places_of(sheet)),
+    };
+    let h = Held { from, to, state: () };
+    filter::answer_input(rt, &points, input, h, out);
 }
 
 // The output's memory. It is made apart because the proof of a function that holds so long an array would spell it out.

@@ -4,93 +4,19 @@
 #![tactic(auto)]
 
 ghost use Rattle.std.specs.Prelude.{◌≡◌, ◌*◌, ◌≤◌, ◌<◌, length};
-ghost use Rattle.sheet_check.specs.Check.{check_of, KnownToPass};
+ghost use Rattle.sheet_check.specs.Check.{check_of};
 ghost use Rattle.compared.specs.Compared.{change_room};
 ghost use Rattle.stream.specs.Stream.{most_kept};
-ghost use Rattle.redo.specs.Turn.{Turned};
 
-use compared::BothPlaces;
-use files::More;
-use redone::{Done, Held, Tally};
+use answering::Held;
+use redone::{Comparing, Tally};
 
 // Room for the input, and for a changed line to each of its bytes.
 const INPUT: usize = 7_040;
 
 const OUTPUT: usize = 1_084_160;
 
-// What a turn left, or the first block, and whether the input has ended or its reading failed.
-#[derive(Clone, Copy)]
-struct State {
-    done: Done,
-    ended: bool,
-}
-
-// ---- the loop
-
-// Takes what was read behind the bytes that are kept, and compares the lines that have ended; at the input's end, what is left. A line that a failed read cut is not compared, and no counts
-// are written then: they would count only a part of the input.
-fn turn(
-    old: &[u8],
-    new: &[u8],
-    places: BothPlaces,
-    input: &mut [u8],
-    prior: Done,
-    more: More,
-    out: &mut [u8],
-) -> State
-    requires { KnownToPass old.now places.old × KnownToPass new.now places.new × (prior.kept ≤ most_kept) × (most_kept < length input.old) × (prior.kept ≤ more.to) × (more.to ≤ length input.old) × (change_room * length input.old ≤ length out.old) }
-    ensures { Turned old.now new.now input.old input.new prior more out.old out.new result }
-{
-    let kept = prior.kept;
-    let to = more.to;
-    let tally = prior.tally;
-    if kept < to {
-        let h = Held { from: 0, to, tally };
-        let done = redone::compare_block(old, new, places, input, h, out);
-        return State { done, ended: false };
-    }
-    if more.failed {
-        return State {
-            done: Done {
-                kept: 0,
-                at: 0,
-                tally,
-            },
-            ended: true,
-        };
-    }
-    let done = redone::compare_last(old, new, places, input, kept, tally, out);
-    State { done, ended: true }
-}
-
-// Compares the lines that are held and those of what is read behind them, and writes the changed ones out after each piece; the tally. A proved loop has to end, so it counts its turns down from a
-// number that no run uses up.
-fn compare_input(
-    rt: &HostRuntime,
-    old: &[u8],
-    new: &[u8],
-    places: BothPlaces,
-    input: &mut [u8],
-    h: Held,
-    out: &mut [u8],
-) -> Tally
-    requires { KnownToPass old.now places.old × KnownToPass new.now places.new × (h.from ≤ h.to) × (h.to ≤ length input.old) × (most_kept < length input.old) × (change_room * length input.old ≤ length out.old) }
-{
-    let done = redone::compare_block(old, new, places, input, h, out);
-    let mut s = State { done, ended: false };
-    let mut turns = u64::MAX;
-    while 0 < turns {
-        let at = s.done.at;
-        let a = s.done.tally;
-        if !files::tell(rt, &out[0..at]) | s.ended {
-            return a;
-        }
-        let more = files::read_on(rt, input, s.done.kept);
-        s = turn(old, new, places, input, s.done, more, out);
-        turns -= 1;
-    }
-    s.done.tally
-}
+// ---- the lines of no known form
 
 // Says how many lines were of no known form, and the number of the first one, where there were any.
 fn say_stray(rt: &HostRuntime, a: Tally) {
@@ -129,19 +55,20 @@ fn compare(
 )
     requires { ((check_of old.now).number ≡ 0) × ((check_of new.now).number ≡ 0) × (from ≤ to) × (to ≤ length input.old) × (most_kept < length input.old) × (change_room * length input.old ≤ length out.old) }
 {
-    let p = entries::places_of(old);
-    let q = entries::places_of(new);
-    let places = BothPlaces { old: p, new: q };
-    let tally = Tally {
+    let sheets = Comparing {
+        old: tables::known(old, entries::places_of(old)),
+        new: tables::known(new, entries::places_of(new)),
+    };
+    let state = Tally {
         lines: 0,
         points: 0,
         changed: 0,
         reached: 0,
         stray: 0,
     };
-    let h = Held { from, to, tally };
-    let a = compare_input(rt, old, new, places, input, h, out);
-    say_stray(rt, a);
+    let h = Held { from, to, state };
+    let tally = filter::answer_input(rt, &sheets, input, h, out);
+    say_stray(rt, tally);
 }
 
 // Prints the check's answer for each sheet and, where both are 0, compares the lines from `from` on.

@@ -3,22 +3,14 @@ use mathlib.Core.Path.{◌≡◌, refl, sym, ◌∙◌}
 use mathlib.Core.Bool.{Bool, true, false}
 use mathlib.Core.List.{List, [], ◌∷◌, ◌++◌, append-nil}
 use Prim.Native.Nat.{ℕ, ◌-◌, ◌≤◌}
-use lib.ListN.{length, take, drop}
-use lib.Seq.{slice, length-take-le}
 use Rattle.refusals.proofs.Ladders.{is, is_not}
 use Rattle.decimal.specs.Writing.{Wrote}
-use Rattle.decimal.proofs.Spelling.{then}
 use Rattle.point_line.specs.PointLine.{is_form, line_of}
 use Rattle.differing.specs.Differing.{differing_rows}
 use Rattle.reached.specs.Reached.{reaches}
 use Rattle.compared.specs.Compared.{changes, compared_text}
-use Rattle.stream.specs.Stream.{last_line, ended_lines, unended, kept_of, most_kept}
-use Rattle.stream.specs.Pieces.{answers, after, written}
-use Rattle.stream.proofs.Cases.{lent}
 use Rattle.redone.specs.declared.Tally.{Tally}
-use Rattle.redone.specs.Tallied.{up, up_where, stray_after, tallied, counts_text}
-use Rattle.redone.specs.declared.Done.{Done}
-use Rattle.redone.specs.Redone.{comparing, Compared}
+use Rattle.redone.specs.Tallied.{up, up_where, stray_after, tallied}
 
 module _ (more : Bool) (n : ℕ) where
   pub one_up : (r : ℕ) → more ≡ true → r ≡ up n → r ≡ up_where more n
@@ -52,36 +44,3 @@ module _ (s t : List ℕ) (a : Tally) (line : List ℕ) where
 
   pub written_one : (n : ℕ) (old new : List ℕ) (at next : ℕ) → n ≡ up a.lines → Wrote old new at next (compared_text s t n (line_of line)) → Wrote old new at next (compared_text s t (up a.lines) (line_of line))
   written_one n old new at next e w = rw e at w
-
--- ---- a block of lines
-module _ (s t buffer rest : List ℕ) (from to : ℕ) (a : Tally) (old new : List ℕ) (r : Done) where
-  pub compared : (read : ℕ) → slice read to buffer ≡ unended (slice from to buffer) → Wrote old new 0 r.at (answers (comparing s t) a (ended_lines (slice from to buffer))) → r.tally ≡ after (comparing s t) a (ended_lines (slice from to buffer))
-      → r.kept ≡ length (take most_kept (slice read to buffer)) → rest ≡ take most_kept (slice read to buffer) ++ drop r.kept buffer → r.kept ≤ most_kept → r.at ≤ length old → Compared s t buffer rest from to a old new r
-  unfolding kept_of
-  compared read e w c n m l f = record { wrote = w; counted = c; kept = rw e at n; memory = rw e at m; few = l; fits = f }
-
--- ---- the input's end
-module _ (s t : List ℕ) (a : Tally) where
-  pub none_left : (n : ℕ) (buffer old : List ℕ) → n ≡ 0 → (a ≡ after (comparing s t) a (last_line (take n buffer))) × Wrote old old 0 0 (answers (comparing s t) a (last_line (take n buffer)))
-  unfolding last_line answers after
-  none_left n buffer old e = rw e (refl, record { place = refl; bytes = refl })
-
-  last-after : (line : List ℕ) → (length line ≡ 0 → ⊥) → after (comparing s t) a (last_line line) ≡ tallied s t a (line_of line)
-  unfolding last_line after
-  last-after [] h = absurd (h refl)
-  last-after (b ∷ line) h = refl
-
-  last-answers : (line : List ℕ) → (length line ≡ 0 → ⊥) → answers (comparing s t) a (last_line line) ≡ compared_text s t (up a.lines) (line_of line)
-  unfolding last_line answers
-  last-answers [] h = absurd (h refl)
-  last-answers (b ∷ line) h = append-nil (compared_text s t (up a.lines) (line_of (b ∷ line)))
-
-  pub one_left : (n : ℕ) (buffer old new : List ℕ) (at : ℕ) (r : Tally) → n ≤ length buffer → (n ≡ 0 → ⊥) → r ≡ tallied s t a (line_of (take (n - 0) buffer)) → Wrote old new 0 at (compared_text s t (up a.lines) (line_of (take (n - 0) buffer)))
-      → (r ≡ after (comparing s t) a (last_line (take n buffer))) × Wrote old new 0 at (answers (comparing s t) a (last_line (take n buffer)))
-  one_left n buffer old new at r l h e w =
-      let some : length (take n buffer) ≡ 0 → ⊥ = λ z. h (sym (length-take-le n buffer l) ∙ z) in
-      (rw (last-after (take n buffer) some, ← lent n buffer) e, rw (last-answers (take n buffer) some, ← lent n buffer) w)
-
-  pub closed : (lines : List (List ℕ)) (old mid new : List ℕ) (i at : ℕ) (r : Tally) → r ≡ after (comparing s t) a lines → Wrote old mid 0 i (answers (comparing s t) a lines) → Wrote mid new i at (counts_text r) → Wrote old new 0 at (written (comparing s t) a lines)
-  unfolding written
-  closed lines old mid new i at r e v w = then v (rw e at w)

@@ -1,2 +1,0 @@
--- One turn of the points program.
-pub mod Turn

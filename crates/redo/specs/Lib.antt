@@ -1,2 +1,0 @@
--- One turn of the redo program.
-pub mod Turn
