@@ -11,7 +11,7 @@ use lib.Seq.{get_or-append-add, get_or-drop}
 use Rattle.refusals.specs.Ladder.{need, where_is}
 use Rattle.refusals.proofs.Ladders.{past, passed_on}
 use Rattle.sheet_check.specs.Check.{check_of}
-use Rattle.batch.specs.declared.Batched.{Batched}
+use Rattle.batch.specs.Batch.{BatchedTold}
 use Rattle.batch.specs.Batch.{pairs, point_at, words_of, words, answered, after_pairs, taken, batched, batch_of, answers_of}
 use Rattle.batch.proofs.Turns.{length-words}
 
@@ -37,7 +37,7 @@ module _ (s : List ℕ) (ok : (check_of s).number ≡ 0) (points old : List ℤ)
   abbrev n : ℕ
   n = pairs points
 
-  abbrev all : Batched
+  abbrev all : BatchedTold
   all = batched 0 (answered s points n)
 
   pub answer_on_pass : batch_of s points old ≡ need (taken (length points) (length old)) (batched 17 0) (batched 0 (answered s points (pairs points)))
@@ -48,7 +48,7 @@ module _ (s : List ℕ) (ok : (check_of s).number ≡ 0) (points old : List ℤ)
 
   pub memory_on_pass : answers_of s points old ≡ need (taken (length points) (length old)) old (after_pairs s points (pairs points) old)
   unfolding answers_of need where_is
-  memory_on_pass = ap (λ (b : Batched). where_is b.number 0 (after_pairs s points n old) old) answer_on_pass ∙ pick (taken (length points) (length old))
+  memory_on_pass = ap (λ (b : BatchedTold). where_is b.number 0 (after_pairs s points n old) old) answer_on_pass ∙ pick (taken (length points) (length old))
     where
       pick : (t : Bool) → where_is (need t (batched 17 0) all).number 0 (after_pairs s points n old) old ≡ need t old (after_pairs s points n old)
       pick true = refl

@@ -2,7 +2,7 @@
 use Rattle.std.specs.Prelude.{ℕ, zero, suc, ◌+◌, ◌*◌, ◌/◌, ◌%◌, List, [], ◌∷◌, ◌++◌, Bool, ◌&&◌, cond, ℤ, pos, length, get_or, drop, leb, eqb}
 use Rattle.refusals.specs.Ladder.{need, or_else, where_is}
 use Rattle.sheet_check.specs.Check.{check_of}
-use Rattle.forward.specs.declared.Plane.{Plane}
+use Rattle.forward.specs.Forward.{PlaneTold}
 use Rattle.convert.specs.Conversions.{geographic_to_plane}
 use Rattle.batch.specs.declared.Batched.{Batched}
 
@@ -10,11 +10,11 @@ use Rattle.batch.specs.declared.Batched.{Batched}
 abbrev pub pairs : List ℤ → ℕ
 pairs points = length points / 2
 
-abbrev pub point_at : List ℕ → List ℤ → ℕ → Plane
+abbrev pub point_at : List ℕ → List ℤ → ℕ → PlaneTold
 point_at s points i = geographic_to_plane s (get_or points (2 * i) (pos 0)) (get_or points (2 * i + 1) (pos 0))
 
 -- "three 32-bit words per point are written, number, x, y"
-abbrev pub words_of : Plane → List ℤ
+abbrev pub words_of : PlaneTold → List ℤ
 words_of r = pos r.number ∷ r.x ∷ r.y ∷ []
 
 -- The words of the first n points.
@@ -34,11 +34,11 @@ answered s points (suc n) = answered s points n + one_if_answered (point_at s po
 unfoldable pub taken : ℕ → ℕ → Bool
 taken given room = eqb (given % 2) 0 && leb (given / 2) 4_096 && leb (3 * (given / 2)) room
 
-abbrev pub batched : ℕ → ℕ → Batched
+abbrev pub batched : ℕ → ℕ → BatchedTold
 batched number count = record { number = number; count = count }
 
 -- "17 comes first, then the check's number; either [..] counts 0. Otherwise the answer's number is 0."
-unfoldable pub batch_of : List ℕ → List ℤ → List ℤ → Batched
+unfoldable pub batch_of : List ℕ → List ℤ → List ℤ → BatchedTold
 batch_of s points old =
     need (taken (length points) (length old)) (batched 17 0)
     (or_else (λ r. r.number) (batched (check_of s).number 0)

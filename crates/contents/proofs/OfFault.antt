@@ -1,7 +1,7 @@
 -- A first fault of the entries as the check's answer, in the shape of the code's needs: f is the code's where the definition has g. Assumes nothing.
 use Prim.{Unit}
-use mathlib.Core.Path.{◌≡◌, ap}
-use Rattle.std.proofs.Common.{Result, Ok, Err}
+use mathlib.Core.Path.{◌≡◌, ap, ◌∙◌}
+use Rattle.std.proofs.Common.{Result, Ok, Err, MatchResult}
 use Rattle.std.specs.Result.{IsErrAnd}
 use Rattle.contents.specs.declared.Refused.{Refused}
 use mathlib.Core.List.{List}
@@ -40,3 +40,7 @@ by_form s f r e q = rw (← e) q
 pub handed_on : (r : Result (Unit {0}) Refused) (e : Refused) → IsErrAnd r (λ x. x ≡ e) → verdict_told r ≡ verdict_told (Err e)
 handed_on (Err x) e h = ap (λ y. verdict_told (Err y)) h
 handed_on (Ok _) e h = elim h [ ]
+
+pub matched_err : {A : Type 0} (P : A → Type 0) (r : Result A Refused) (e : Refused) (v : Verdict) → IsErrAnd r (λ x. x ≡ e) → verdict_told (Err e) ≡ v → MatchResult r P (λ x. verdict_told (Err x) ≡ v)
+matched_err P (Err x) e v h q = ap (λ y. verdict_told (Err y)) h ∙ q
+matched_err P (Ok _) e v h q = elim h [ ]

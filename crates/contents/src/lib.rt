@@ -184,3 +184,11 @@ impl<'a> Table<'a> {
         &self.sheet[start..end]
     }
 }
+
+impl From<Refused> for Refusal {
+    ghost from_gives = { λ r refusal. refusal ≡ r.refusal };
+
+    fn from(r: Refused) -> Refusal {
+        r.refusal
+    }
+}

@@ -7,15 +7,15 @@ ghost use Rattle.entries.specs.Layout.{northing, scale};
 ghost use Rattle.entries.specs.Entries.{step_of};
 ghost use Rattle.sheet_check.specs.Check.{KnownToPass};
 ghost use Rattle.extent.specs.Extent.{scale_known, northing_known};
-ghost use Rattle.convergence.specs.Grid.{grid_of, taken_at, worked_of};
+ghost use Rattle.convergence.specs.Grid.{grid_told, grid_of, taken_at, worked_of};
 
+use refusals::Refusal;
 use rounding::Rounded;
 use tables::Passed;
 
-// The grid at a point: the convergence Δα in 0.1″, the scale k in 10⁻⁷, and whether some rounding on the way to them met a half. A refusal has its number, zeros and no half.
+// The grid at a point: the convergence Δα in 0.1″, the scale k in 10⁻⁷, and whether some rounding on the way to them met a half.
 #[derive(Clone, Copy)]
 pub struct Grid {
-    pub number: u32,
     pub convergence: i32,
     pub scale: i32,
     pub half: bool,
@@ -65,11 +65,10 @@ fn taken_at(sheet: Passed, xp: i64, y: i32) -> Taken
 // Working: the grid at a point, from its figures and x'.
 pub fn worked(f: Taken, xp: i64) -> Grid
     requires { (f.m.value ≤ most_m) × (nat_abs f.k.value ≤ 10_010_000) × (nat_abs xp ≤ most_word) }
-    ensures { result ≡ worked_of f xp }
+    ensures { grid_told (Ok result) ≡ worked_of f xp }
 {
     let convergence = steps::convergence(f.m.value, xp);
     Grid {
-        number: 0,
         convergence: convergence.value as i32,
         scale: f.k.value as i32,
         half: f.m.half | f.k.half | convergence.half,
@@ -77,25 +76,15 @@ pub fn worked(f: Taken, xp: i64) -> Grid
 }
 
 // Convergence and scale: 12, 13, or Δα and k.
-pub fn convergence(sheet: Passed, x: i32, y: i32) -> Grid
-    ensures { result ≡ grid_of sheet.entry.bytes.now x y }
+pub fn convergence(sheet: Passed, x: i32, y: i32) -> Result<Grid, Refusal>
+    ensures { grid_told result ≡ grid_of sheet.entry.bytes.now x y }
 {
     let xp = extent::x_prime(sheet, x);
     if !extent::scale_known(sheet, xp) {
-        return Grid {
-            number: 12,
-            convergence: 0,
-            scale: 0,
-            half: false,
-        };
+        return Err(Refusal::Easting);
     }
     if !extent::northing_known(sheet, y) {
-        return Grid {
-            number: 13,
-            convergence: 0,
-            scale: 0,
-            half: false,
-        };
+        return Err(Refusal::Northing);
     }
-    worked(taken_at(sheet, xp, y), xp)
+    Ok(worked(taken_at(sheet, xp, y), xp))
 }

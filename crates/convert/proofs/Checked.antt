@@ -5,9 +5,9 @@ use Prim.Native.Nat.{ℕ}
 use lib.IntN.{ℤ}
 use Rattle.refusals.proofs.Ladders.{refused, passed_on}
 use Rattle.sheet_check.specs.Check.{check_of}
-use Rattle.forward.specs.declared.Plane.{Plane}
-use Rattle.inverse.specs.declared.Geographic.{Geographic}
-use Rattle.convergence.specs.declared.Grid.{Grid}
+use Rattle.forward.specs.Forward.{PlaneTold}
+use Rattle.inverse.specs.Inverse.{GeographicTold}
+use Rattle.convergence.specs.Grid.{GridTold}
 use Rattle.forward.specs.Forward.{no_plane, forward_of}
 use Rattle.inverse.specs.Inverse.{no_geographic, inverse_of}
 use Rattle.convergence.specs.Grid.{no_grid, grid_of}
@@ -30,7 +30,7 @@ module _ (s : List ℕ) (a b : ℤ) where
   unfolding geographic_to_plane
   forward_on_pass z = after_pass (λ r. r.number) no_plane (λ n. refl) s (forward_of s a b) z
 
-  pub forward-passes : (r : Plane) → (check_of s).number ≡ 0 → r ≡ forward_of s a b → r ≡ geographic_to_plane s a b
+  pub forward-passes : (r : PlaneTold) → (check_of s).number ≡ 0 → r ≡ forward_of s a b → r ≡ geographic_to_plane s a b
   unfolding geographic_to_plane
   forward-passes r z e = on_pass (λ r. r.number) no_plane (λ n. refl) s (forward_of s a b) r z e
 
@@ -42,7 +42,7 @@ module _ (s : List ℕ) (a b : ℤ) where
   unfolding plane_to_geographic
   inverse_on_pass z = after_pass (λ r. r.number) no_geographic (λ n. refl) s (inverse_of s a b) z
 
-  pub inverse-passes : (r : Geographic) → (check_of s).number ≡ 0 → r ≡ inverse_of s a b → r ≡ plane_to_geographic s a b
+  pub inverse-passes : (r : GeographicTold) → (check_of s).number ≡ 0 → r ≡ inverse_of s a b → r ≡ plane_to_geographic s a b
   unfolding plane_to_geographic
   inverse-passes r z e = on_pass (λ r. r.number) no_geographic (λ n. refl) s (inverse_of s a b) r z e
 
@@ -54,7 +54,7 @@ module _ (s : List ℕ) (a b : ℤ) where
   unfolding convergence_and_scale
   grid_on_pass z = after_pass (λ r. r.number) no_grid (λ n. refl) s (grid_of s a b) z
 
-  pub grid-passes : (r : Grid) → (check_of s).number ≡ 0 → r ≡ grid_of s a b → r ≡ convergence_and_scale s a b
+  pub grid-passes : (r : GridTold) → (check_of s).number ≡ 0 → r ≡ grid_of s a b → r ≡ convergence_and_scale s a b
   unfolding convergence_and_scale
   grid-passes r z e = on_pass (λ r. r.number) no_grid (λ n. refl) s (grid_of s a b) r z e
 

@@ -4,9 +4,9 @@ use Rattle.std.specs.Prelude.{Bool, false, List, ℕ, eqb, ℤ, pos, Float}
 use Rattle.std.specs.Float.{binary64}
 use Rattle.std.specs.Float.Ieee.{div}
 use Rattle.refusals.specs.Ladder.{need}
-use Rattle.forward.specs.declared.Plane.{Plane}
-use Rattle.inverse.specs.declared.Geographic.{Geographic}
-use Rattle.convergence.specs.declared.Grid.{Grid}
+use Rattle.forward.specs.Forward.{PlaneTold}
+use Rattle.inverse.specs.Inverse.{GeographicTold}
+use Rattle.convergence.specs.Grid.{GridTold}
 use Rattle.convert.specs.Conversions.{geographic_to_plane, plane_to_geographic, convergence_and_scale}
 use Rattle.door.specs.declared.Point.{Point}
 use Rattle.counts.specs.declared.Whole.{Whole}
@@ -55,13 +55,13 @@ door_of Pair.No convert = Refused 15
 door_of (Pair.Of a b) convert = convert a b
 
 -- Each conversion's answer, as the tools get it.
-abbrev pub plane_answer : Plane → Answer
+abbrev pub plane_answer : PlaneTold → Answer
 plane_answer r = answer_of r.number r.x r.y r.half
 
-abbrev pub geographic_answer : Geographic → Answer
+abbrev pub geographic_answer : GeographicTold → Answer
 geographic_answer r = answer_of r.number r.latitude r.longitude r.half
 
-abbrev pub grid_answer : Grid → Answer
+abbrev pub grid_answer : GridTold → Answer
 grid_answer r = answer_of r.number r.convergence r.scale r.half
 
 -- "Geographic to plane" through the door: latitude and west longitude in 0.001″ to x and y in 0.01 ft.

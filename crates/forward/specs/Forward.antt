@@ -1,5 +1,7 @@
 -- "Geographic to plane." Latitude and longitude in 0.001″, x and y in 0.01 ft. s is the sheet.
-use Rattle.std.specs.Prelude.{Bool, false, ◌||◌, List, ℕ, ◌*◌, ◌≤◌, T, ℤ, pos, nat_abs, ◌+ℤ◌, ◌*ℤ◌}
+use Rattle.std.specs.Prelude.{Bool, false, ◌||◌, List, ℕ, ◌*◌, ◌≤◌, T, ℤ, pos, nat_abs, ◌+ℤ◌, ◌*ℤ◌, Result, Ok, Err}
+use Rattle.refusals.specs.declared.Refusal.{Refusal}
+use Rattle.refusals.specs.Numbers.{number_of}
 use Rattle.std.specs.Int.Signed.{non_neg}
 use Rattle.rounding.specs.Nearest.{with_sign}
 use Rattle.rounding.specs.Ranges.{most_h, most_v, most_a, most_b, most_c, most_s}
@@ -12,11 +14,23 @@ use Rattle.forward.specs.declared.Longitude.{Longitude}
 use Rattle.forward.specs.declared.Taken.{Taken}
 
 -- The answer: x and y, in 0.01 ft, and whether "some rounding in it met a half (no in a refusal)". "A refused conversion carries zeros."
-abbrev pub plane : ℕ → ℤ → ℤ → Bool → Plane
+-- The answer, as it is told: number, x and y, and whether some rounding on the way to them met a half. "A refused conversion carries zeros", and no half.
+pub record PlaneTold : Type 0 where
+  pub number : ℕ
+  pub x : ℤ
+  pub y : ℤ
+  pub half : Bool
+
+abbrev pub plane : ℕ → ℤ → ℤ → Bool → PlaneTold
 plane number x y half = record { number = number; x = x; y = y; half = half }
 
-abbrev pub no_plane : ℕ → Plane
+abbrev pub no_plane : ℕ → PlaneTold
 no_plane number = plane number (pos 0) (pos 0) false
+
+-- What code answers, as it is told.
+abbrev pub plane_told : Result Plane Refusal → PlaneTold
+plane_told (Ok p) = plane 0 p.x p.y p.half
+plane_told (Err r) = no_plane (number_of r)
 
 -- "From latitude take y0, H, V, a; from s take b, c." t is the latitude's distance from row 0, and size is s, the size of L.
 -- "The size of x' is the nearest hundredth of H·s + a·b"
@@ -39,14 +53,14 @@ unfoldable pub y_half : List ℕ → ℕ → ℕ → Bool
 y_half s t size = y0_half s t || v_half s t || c_half s size || q_half size || rise_half (v_at s t) (q_of size) (c_at s size)
 
 -- The point on the plane, at the latitude's distance t from row 0 and L.
-unfoldable pub plane_from : List ℕ → ℕ → ℤ → Plane
+unfoldable pub plane_from : List ℕ → ℕ → ℤ → PlaneTold
 plane_from s t l = plane 0 (x_of s t l) (y_of s t (nat_abs l)) (x_half s t (nat_abs l) || y_half s t (nat_abs l))
 
-unfoldable pub plane_at : List ℕ → ℤ → ℤ → Plane
+unfoldable pub plane_at : List ℕ → ℤ → ℤ → PlaneTold
 plane_at s north west = plane_from s (nat_abs (from_first s north)) (l_of s west)
 
 -- "forward 10, 11", on a sheet that passes
-unfoldable pub forward_of : List ℕ → ℤ → ℤ → Plane
+unfoldable pub forward_of : List ℕ → ℤ → ℤ → PlaneTold
 forward_of s north west =
     need (latitude_known s north) (no_plane 10)
     (need (longitude_known s west) (no_plane 11)
@@ -82,7 +96,7 @@ unfoldable pub worked_y_half : Taken → ℕ → Bool
 worked_y_half f size = f.y0.half || f.v.half || f.c.half || q_half size || rise_half f.v.value (q_of size) f.c.value
 
 -- The point on the plane. That it is `plane_from` of a sheet's figures, `Eastings.taken-worked` proves.
-unfoldable pub worked_of : Taken → ℤ → ℤ → Plane
+unfoldable pub worked_of : Taken → ℤ → ℤ → PlaneTold
 worked_of f easting l = plane 0 (worked_x f easting l) (worked_y f (nat_abs l)) (worked_x_half f (nat_abs l) || worked_y_half f (nat_abs l))
 
 -- What the work asks of its figures, of C and of L: the ranges of a sheet that passes, and H·s + a·b not below zero.

@@ -8,16 +8,16 @@ ghost use Rattle.entries.specs.Entries.{step_of, Within};
 ghost use Rattle.reading.specs.Tables.{offset_of};
 ghost use Rattle.tables.specs.Figures.{InTable};
 ghost use Rattle.extent.specs.Extent.{latitude_known, longitude_known};
-ghost use Rattle.forward.specs.Forward.{plane_at, forward_of, longitude_at, taken_at, worked_x, worked_x_half, worked_y, worked_y_half, worked_of, Workable};
+ghost use Rattle.forward.specs.Forward.{plane_told, plane_at, forward_of, longitude_at, taken_at, worked_x, worked_x_half, worked_y, worked_y_half, worked_of, Workable};
 
 use reading::At;
+use refusals::Refusal;
 use rounding::Rounded;
 use tables::Passed;
 
-// A point on the plane: x and y in 0.01 ft, and whether some rounding on the way to them met a half. A refusal has its number, zeros and no half.
+// A point on the plane: x and y in 0.01 ft, and whether some rounding on the way to them met a half.
 #[derive(Clone, Copy)]
 pub struct Plane {
-    pub number: u32,
     pub x: i32,
     pub y: i32,
     pub half: bool,
@@ -112,12 +112,11 @@ fn y_of(f: Taken, size: u64) -> Rounded<i64>
 // The point on the plane, worked from its figures, the false easting and L.
 pub fn worked(f: Taken, easting: i64, l: i64) -> Plane
     requires { Workable f easting l }
-    ensures { result ≡ worked_of f easting l }
+    ensures { plane_told (Ok result) ≡ worked_of f easting l }
 {
     let x = x_of(f, easting, l);
     let y = y_of(f, rounding::size(l));
     Plane {
-        number: 0,
         x: x.value as i32,
         y: y.value as i32,
         half: x.half | y.half,
@@ -127,7 +126,7 @@ pub fn worked(f: Taken, easting: i64, l: i64) -> Plane
 // The point on the plane, of a latitude and a longitude within the tables. Each position is worked once.
 fn plane_at(sheet: Passed, latitude: i32, longitude: i32) -> Plane
     requires { (latitude_known sheet.bytes.now latitude ≡ true) × (longitude_known sheet.bytes.now longitude ≡ true) }
-    ensures { result ≡ plane_at sheet.entry.bytes.now latitude longitude }
+    ensures { plane_told (Ok result) ≡ plane_at sheet.entry.bytes.now latitude longitude }
 {
     let t = extent::from_first(sheet, latitude) as u64;
     let l = extent::l_of(sheet, longitude);
@@ -137,24 +136,14 @@ fn plane_at(sheet: Passed, latitude: i32, longitude: i32) -> Plane
 }
 
 // Geographic to plane: 10, 11, or x and y.
-pub fn forward(sheet: Passed, latitude: i32, longitude: i32) -> Plane
-    ensures { result ≡ forward_of sheet.entry.bytes.now latitude longitude }
+pub fn forward(sheet: Passed, latitude: i32, longitude: i32) -> Result<Plane, Refusal>
+    ensures { plane_told result ≡ forward_of sheet.entry.bytes.now latitude longitude }
 {
     if !extent::latitude_known(sheet, latitude) {
-        return Plane {
-            number: 10,
-            x: 0,
-            y: 0,
-            half: false,
-        };
+        return Err(Refusal::Latitude);
     }
     if !extent::longitude_known(sheet, longitude) {
-        return Plane {
-            number: 11,
-            x: 0,
-            y: 0,
-            half: false,
-        };
+        return Err(Refusal::Longitude);
     }
-    plane_at(sheet, latitude, longitude)
+    Ok(plane_at(sheet, latitude, longitude))
 }

@@ -1,5 +1,7 @@
 -- "Plane to geographic." x and y in 0.01 ft, latitude and longitude in 0.001″. s is the sheet and xp is x'. The name x is the point's x in `inverse_of`, and the size of x' everywhere else.
-use Rattle.std.specs.Prelude.{Bool, false, ◌||◌, List, ℕ, ◌+◌, ◌*◌, ℤ, pos, nat_abs, ◌+ℤ◌, ◌-ℤ◌}
+use Rattle.std.specs.Prelude.{Bool, false, ◌||◌, List, ℕ, ◌+◌, ◌*◌, ℤ, pos, nat_abs, ◌+ℤ◌, ◌-ℤ◌, Result, Ok, Err}
+use Rattle.refusals.specs.declared.Refusal.{Refusal}
+use Rattle.refusals.specs.Numbers.{number_of}
 use Rattle.rounding.specs.Nearest.{with_sign}
 use Rattle.steps.specs.Steps.{reduction, reduction_half, seconds, seconds_half, approximate_l, approximate_l_half, size_of_l, size_of_l_half}
 use Rattle.refusals.specs.Ladder.{need, where_below}
@@ -14,11 +16,23 @@ use Rattle.inverse.specs.declared.ForReduction.{ForReduction}
 use Rattle.inverse.specs.declared.Taken.{Taken}
 
 -- The answer: latitude and west longitude, in 0.001″, and whether "some rounding in it met a half (no in a refusal)". "A refused conversion carries zeros."
-abbrev pub geographic : ℕ → ℤ → ℤ → Bool → Geographic
+-- The answer, as it is told: number, latitude and longitude, and whether some rounding on the way to them met a half. "A refused conversion carries zeros", and no half.
+pub record GeographicTold : Type 0 where
+  pub number : ℕ
+  pub latitude : ℤ
+  pub longitude : ℤ
+  pub half : Bool
+
+abbrev pub geographic : ℕ → ℤ → ℤ → Bool → GeographicTold
 geographic number latitude longitude half = record { number = number; latitude = latitude; longitude = longitude; half = half }
 
-abbrev pub no_geographic : ℕ → Geographic
+abbrev pub no_geographic : ℕ → GeographicTold
 no_geographic number = geographic number (pos 0) (pos 0) false
+
+-- What code answers, as it is told.
+abbrev pub geographic_told : Result Geographic Refusal → GeographicTold
+geographic_told (Ok g) = geographic 0 g.latitude g.longitude g.half
+geographic_told (Err r) = no_geographic (number_of r)
 
 -- "P is read at y, d at |x'|. Reduced northing = y − nearest hundredth of (P(x'/10,000)² + d)"
 unfoldable pub reduced_northing : List ℕ → ℕ → ℤ → ℤ
@@ -73,23 +87,23 @@ unfoldable pub longitude_of : List ℕ → ℤ → ℕ → ℤ
 longitude_of s xp t = central_meridian_of s -ℤ with_sign xp (size_of s (nat_abs xp) t)
 
 -- The point on the earth. `met`, here and below: some rounding before met a half.
-unfoldable pub geographic_at : List ℕ → ℤ → ℕ → Bool → Geographic
+unfoldable pub geographic_at : List ℕ → ℤ → ℕ → Bool → GeographicTold
 geographic_at s xp t met = geographic 0 (first_latitude_of s +ℤ pos t) (longitude_of s xp t) (met || size_half s (nat_abs xp) t)
 
 -- "inverse 12, 13, 14, 11", on a sheet that passes, in three parts, written last part first: `inverse_of` goes on to `from_reduced`, and that to `from_distance`.
 -- From the latitude on: 11, where "the size of L (.. approximate or final)" is "above the last kind 3 row".
-unfoldable pub from_distance : List ℕ → ℤ → ℕ → Bool → Geographic
+unfoldable pub from_distance : List ℕ → ℤ → ℕ → Bool → GeographicTold
 from_distance s xp t met =
     need (size_known s (pos (approximate_of s (nat_abs xp) t))) (no_geographic 11)
     (need (size_known s (size_of s (nat_abs xp) t)) (no_geographic 11)
     (geographic_at s xp t met))
 
 -- From the reduced northing on: 14, then the latitude.
-unfoldable pub from_reduced : List ℕ → ℤ → ℤ → Bool → Geographic
+unfoldable pub from_reduced : List ℕ → ℤ → ℤ → Bool → GeographicTold
 from_reduced s xp reduced met = need (reduced_known s reduced) (no_geographic 14) (from_distance s xp (distance_of s reduced) (met || distance_half s reduced))
 
 -- From x and y on: 12, 13, then the reduced northing.
-unfoldable pub inverse_of : List ℕ → ℤ → ℤ → Geographic
+unfoldable pub inverse_of : List ℕ → ℤ → ℤ → GeographicTold
 inverse_of s x y =
     need (easting_known s (x_prime s x)) (no_geographic 12)
     (need (northing_known s y) (no_geographic 13)

@@ -10,16 +10,16 @@ ghost use Rattle.entries.specs.Entries.{rows_of, step_of, Within};
 ghost use Rattle.reading.specs.Tables.{offset_of};
 ghost use Rattle.tables.specs.Figures.{InTable, b_at, b_half, p_at, p_half, d_at, d_half};
 ghost use Rattle.extent.specs.Extent.{size_known, easting_known, northing_known, reduced_known};
-ghost use Rattle.inverse.specs.Inverse.{reduced_northing, reduced_half, row_of, distance_of, distance_half, size_of, size_half, geographic_at, from_distance, from_reduced, inverse_of, for_reduction, reduced_by, reduced_by_half, seconds_by, seconds_by_half, taken_at, approximate_by, size_by, size_by_half};
+ghost use Rattle.inverse.specs.Inverse.{reduced_northing, reduced_half, row_of, distance_of, distance_half, size_of, size_half, geographic_told, geographic_at, from_distance, from_reduced, inverse_of, for_reduction, reduced_by, reduced_by_half, seconds_by, seconds_by_half, taken_at, approximate_by, size_by, size_by_half};
 
 use reading::At;
+use refusals::Refusal;
 use rounding::Rounded;
 use tables::Passed;
 
-// A point on the earth: latitude and west longitude in 0.001″, and whether some rounding on the way to them met a half. A refusal has its number, zeros and no half.
+// A point on the earth: latitude and west longitude in 0.001″, and whether some rounding on the way to them met a half.
 #[derive(Clone, Copy)]
 pub struct Geographic {
-    pub number: u32,
     pub latitude: i32,
     pub longitude: i32,
     pub half: bool,
@@ -183,11 +183,10 @@ pub fn size_of(f: Taken, b: Rounded<i64>, x: u64, met: bool) -> Rounded<i64>
 // is read. `met`, here and below: some rounding before met a half.
 fn geographic_at(sheet: Passed, xp: i64, at: At, size: Rounded<i64>, met: bool) -> Geographic
     requires { InTable sheet.bytes.now latitude at × (size.value ≡ size_of sheet.bytes.now (nat_abs xp) (offset_of at)) × (size_known sheet.bytes.now size.value ≡ true) × (size.half ≡ size_half sheet.bytes.now (nat_abs xp) (offset_of at)) }
-    ensures { result ≡ geographic_at sheet.entry.bytes.now xp (offset_of at) met }
+    ensures { geographic_told (Ok result) ≡ geographic_at sheet.entry.bytes.now xp (offset_of at) met }
 {
     let t = (at.row as u64) * (at.step as u64) + (at.past as u64);
     Geographic {
-        number: 0,
         latitude: (sheet.origin.first_latitude + (t as i64)) as i32,
         longitude: (sheet.origin.central_meridian - rounding::with_sign(xp, size.value)) as i32,
         half: met | size.half,
@@ -195,45 +194,30 @@ fn geographic_at(sheet: Passed, xp: i64, at: At, size: Rounded<i64>, met: bool) 
 }
 
 // 11, or the point on the earth, from x' and the latitude's position.
-fn from_distance(sheet: Passed, xp: i64, at: At, met: bool) -> Geographic
+fn from_distance(sheet: Passed, xp: i64, at: At, met: bool) -> Result<Geographic, Refusal>
     requires { (easting_known sheet.bytes.now xp ≡ true) × InTable sheet.bytes.now latitude at }
-    ensures { result ≡ from_distance sheet.entry.bytes.now xp (offset_of at) met }
+    ensures { geographic_told result ≡ from_distance sheet.entry.bytes.now xp (offset_of at) met }
 {
     let x = rounding::size(xp);
     let approximate = approximate_of(tables::h_at(sheet, at), x);
     if !extent::size_known(sheet, approximate.value as i64) {
-        return Geographic {
-            number: 11,
-            latitude: 0,
-            longitude: 0,
-            half: false,
-        };
+        return Err(Refusal::Longitude);
     }
     let b = b_at(sheet, approximate.value); // before H and a: a word that is read before the test for b's step and used after it is put together byte by byte
     let size = size_of(taken_at(sheet, at), b, x, approximate.half);
     if !extent::size_known(sheet, size.value) {
-        return Geographic {
-            number: 11,
-            latitude: 0,
-            longitude: 0,
-            half: false,
-        };
+        return Err(Refusal::Longitude);
     }
-    geographic_at(sheet, xp, at, size, met)
+    Ok(geographic_at(sheet, xp, at, size, met))
 }
 
 // 14, 11, or the point on the earth, from x' and the reduced northing. The row that is found and the seconds past it are the latitude's position.
-fn from_reduced(sheet: Passed, xp: i64, reduced: i64, met: bool) -> Geographic
+fn from_reduced(sheet: Passed, xp: i64, reduced: i64, met: bool) -> Result<Geographic, Refusal>
     requires { (easting_known sheet.bytes.now xp ≡ true) × (nat_abs reduced < 2 ^ 62) }
-    ensures { result ≡ from_reduced sheet.entry.bytes.now xp reduced met }
+    ensures { geographic_told result ≡ from_reduced sheet.entry.bytes.now xp reduced met }
 {
     if !extent::reduced_known(sheet, reduced) {
-        return Geographic {
-            number: 14,
-            latitude: 0,
-            longitude: 0,
-            half: false,
-        };
+        return Err(Refusal::Reduced);
     }
     let row = tables::row_with_next(sheet, reduced);
     let seconds = seconds_past(sheet, reduced, row);
@@ -246,25 +230,15 @@ fn from_reduced(sheet: Passed, xp: i64, reduced: i64, met: bool) -> Geographic
 }
 
 // Plane to geographic: 12, 13, 14, 11, or latitude and longitude.
-pub fn inverse(sheet: Passed, x: i32, y: i32) -> Geographic
-    ensures { result ≡ inverse_of sheet.entry.bytes.now x y }
+pub fn inverse(sheet: Passed, x: i32, y: i32) -> Result<Geographic, Refusal>
+    ensures { geographic_told result ≡ inverse_of sheet.entry.bytes.now x y }
 {
     let xp = extent::x_prime(sheet, x);
     if !extent::easting_known(sheet, xp) {
-        return Geographic {
-            number: 12,
-            latitude: 0,
-            longitude: 0,
-            half: false,
-        };
+        return Err(Refusal::Easting);
     }
     if !extent::northing_known(sheet, y) {
-        return Geographic {
-            number: 13,
-            latitude: 0,
-            longitude: 0,
-            half: false,
-        };
+        return Err(Refusal::Northing);
     }
     let reduced = reduced_northing(sheet, rounding::size(xp), y);
     from_reduced(sheet, xp, reduced.value, reduced.half)

@@ -5,11 +5,11 @@ use Prim.Native.Nat.{ℕ}
 use lib.IntN.{ℤ}
 use Rattle.refusals.proofs.Ladders.{is, is_not}
 use Rattle.sheet_check.specs.Check.{check_of}
-use Rattle.forward.specs.declared.Plane.{Plane}
+use Rattle.forward.specs.Forward.{PlaneTold}
 use Rattle.forward.specs.Forward.{forward_of}
-use Rattle.inverse.specs.declared.Geographic.{Geographic}
+use Rattle.inverse.specs.Inverse.{GeographicTold}
 use Rattle.inverse.specs.Inverse.{inverse_of}
-use Rattle.convergence.specs.declared.Grid.{Grid}
+use Rattle.convergence.specs.Grid.{GridTold}
 use Rattle.convergence.specs.Grid.{grid_of}
 use Rattle.convert.proofs.Checked.{forward-passes, inverse-passes, grid-passes}
 use Rattle.point_line.specs.declared.Line.{Line}
@@ -19,15 +19,15 @@ use Rattle.lines.specs.Lines.{answer_line, unknown_line, no_values, plane_values
 
 -- ---- what a line is answered
 module _ (s : List ℕ) (l : Line) (z : (check_of s).number ≡ 0) (a b : ℤ) (x : a ≡ l.first) (y : b ≡ l.second) where
-  pub forward-values : (r : Plane) → l.form ≡ 71 → r ≡ forward_of s a b → plane_values r ≡ values_of s l
+  pub forward-values : (r : PlaneTold) → l.form ≡ 71 → r ≡ forward_of s a b → plane_values r ≡ values_of s l
   unfolding values_of
   forward-values r f h = is l.form 71 _ _ _ f (rw (forward-passes s a b r z h, x, y))
 
-  pub inverse-values : (r : Geographic) → (l.form ≡ 71 → ⊥) → l.form ≡ 80 → r ≡ inverse_of s a b → geographic_values r ≡ values_of s l
+  pub inverse-values : (r : GeographicTold) → (l.form ≡ 71 → ⊥) → l.form ≡ 80 → r ≡ inverse_of s a b → geographic_values r ≡ values_of s l
   unfolding values_of
   inverse-values r n f h = is_not l.form 71 _ _ _ n (is l.form 80 _ _ _ f (rw (inverse-passes s a b r z h, x, y)))
 
-  pub grid-values : (r : Grid) → (l.form ≡ 71 → ⊥) → (l.form ≡ 80 → ⊥) → l.form ≡ 83 → r ≡ grid_of s a b → grid_values r ≡ values_of s l
+  pub grid-values : (r : GridTold) → (l.form ≡ 71 → ⊥) → (l.form ≡ 80 → ⊥) → l.form ≡ 83 → r ≡ grid_of s a b → grid_values r ≡ values_of s l
   unfolding values_of
   grid-values r n m f h = is_not l.form 71 _ _ _ n (is_not l.form 80 _ _ _ m (is l.form 83 _ _ _ f (rw (grid-passes s a b r z h, x, y))))
 

@@ -1,9 +1,9 @@
 -- What is printed for a line of the "Points program". A line is its bytes without the line feed; s is the sheet.
 use Rattle.std.specs.Prelude.{ℕ, List, [], ◌∷◌, ◌++◌, ℤ, pos}
 use Rattle.refusals.specs.Ladder.{where_is}
-use Rattle.forward.specs.declared.Plane.{Plane}
-use Rattle.inverse.specs.declared.Geographic.{Geographic}
-use Rattle.convergence.specs.declared.Grid.{Grid}
+use Rattle.forward.specs.Forward.{PlaneTold}
+use Rattle.inverse.specs.Inverse.{GeographicTold}
+use Rattle.convergence.specs.Grid.{GridTold}
 use Rattle.convert.specs.Conversions.{geographic_to_plane, plane_to_geographic, convergence_and_scale}
 use Rattle.decimal.specs.Writing.{size_text, number_text}
 use Rattle.point_line.specs.declared.Line.{Line}
@@ -35,13 +35,13 @@ values number first second = record { number = number; first = first; second = s
 abbrev pub no_values : Values
 no_values = values 18 (pos 0) (pos 0)
 
-abbrev pub plane_values : Plane → Values
+abbrev pub plane_values : PlaneTold → Values
 plane_values r = values r.number r.x r.y
 
-abbrev pub geographic_values : Geographic → Values
+abbrev pub geographic_values : GeographicTold → Values
 geographic_values r = values r.number r.latitude r.longitude
 
-abbrev pub grid_values : Grid → Values
+abbrev pub grid_values : GridTold → Values
 grid_values r = values r.number r.convergence r.scale
 
 -- G is geographic to plane, P plane to geographic, S convergence and scale.

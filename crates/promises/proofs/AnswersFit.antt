@@ -19,9 +19,9 @@ use Rattle.tables.specs.Figures.{central_meridian_of, first_latitude_of}
 use Rattle.tables.proofs.Ranges.{minutes_most, central_size, first_most, k_between}
 use Rattle.extent.specs.Extent.{from_first, latitude_known, l_of, longitude_known, size_known, x_prime, easting_known, scale_known, northing_known, reduced_known}
 use Rattle.extent.proofs.Reach.{latitude-within, longitude-within, size_reach, scale-within, latitude_span, longitude_span}
-use Rattle.forward.specs.declared.Plane.{Plane}
-use Rattle.inverse.specs.declared.Geographic.{Geographic}
-use Rattle.convergence.specs.declared.Grid.{Grid}
+use Rattle.forward.specs.Forward.{PlaneTold}
+use Rattle.inverse.specs.Inverse.{GeographicTold}
+use Rattle.convergence.specs.Grid.{GridTold}
 use Rattle.forward.specs.Forward.{no_plane, x_of, y_of, plane_at, plane_from, forward_of}
 use Rattle.inverse.specs.Inverse.{no_geographic, approximate_of, size_of, longitude_of, distance_of, reduced_northing, geographic_at, from_distance, from_reduced, inverse_of}
 use Rattle.convergence.specs.Grid.{no_grid, grid_at, grid_of}
@@ -56,7 +56,7 @@ module _ (s : List ℕ) where
       (λ l. rungs P (longitude_known s west) (no_plane 11) (plane_at s north west) (lit≤ tt, lit≤ tt)
       (λ h. worked z (latitude-within s z north l) (longitude-within s west h))))
     where
-      P : Plane → Type 0
+      P : PlaneTold → Type 0
       P r = Fits32 r.x × Fits32 r.y
 
       worked : (check_of s).number ≡ 0 → Within s latitude (nat_abs (from_first s north)) → Within s longitude (nat_abs (l_of s west))
@@ -93,7 +93,7 @@ module _ (s : List ℕ) where
       (λ a. rungs P (size_known s (size_of s (nat_abs xp) t)) (no_geographic 11) _ (lit≤ tt, lit≤ tt)
       (λ b. (latitude-fits z t (distance_within s z reduced r), longitude-fits z xp t b)))))))
     where
-      P : Geographic → Type 0
+      P : GeographicTold → Type 0
       P r = Fits32 r.latitude × Fits32 r.longitude
 
   -- ---- convergence and scale
@@ -108,5 +108,5 @@ module _ (s : List ℕ) where
         le_trans (k_between s z (nat_abs (x_prime s x)) (scale-within s (x_prime s x) k)).high (lit≤ tt),
       ))))
     where
-      P : Grid → Type 0
+      P : GridTold → Type 0
       P r = Fits32 r.convergence × Fits32 r.scale

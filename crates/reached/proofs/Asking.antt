@@ -12,7 +12,7 @@ use Rattle.entries.specs.Layout.{one_minute}
 use Rattle.rounding.proofs.Holds.{held_size}
 use Rattle.refusals.proofs.Ladders.{is, is_not}
 use Rattle.sheet_check.specs.Check.{check_of}
-use Rattle.touched.specs.declared.Touch.{Touch}
+use Rattle.touched.specs.Touched.{TouchTold}
 use Rattle.touched.specs.Touched.{geographic_touched, plane_touched}
 use Rattle.point_line.specs.declared.Line.{Line}
 use Rattle.differing.specs.Differing.{differing_rows, any_of, is_differing}
@@ -39,11 +39,11 @@ module _ (s : List ℕ) (l : Line) where
 
 -- ---- whether a correction may touch it
 module _ (s : List ℕ) (l : Line) (minute m a b : ℤ) (e : m ≡ minute) (x : a ≡ l.first) (y : b ≡ l.second) where
-  pub forward-touches : (r : Touch) → l.form ≡ 71 → r ≡ geographic_touched s m a b → r.touched ≡ touches s l minute
+  pub forward-touches : (r : TouchTold) → l.form ≡ 71 → r ≡ geographic_touched s m a b → r.touched ≡ touches s l minute
   unfolding touches
   forward-touches r f h = is l.form 71 _ _ _ f (rw (h, e, x, y))
 
-  pub inverse-touches : (r : Touch) → (l.form ≡ 71 → ⊥) → l.form ≡ 80 → r ≡ plane_touched s m a b → r.touched ≡ touches s l minute
+  pub inverse-touches : (r : TouchTold) → (l.form ≡ 71 → ⊥) → l.form ≡ 80 → r ≡ plane_touched s m a b → r.touched ≡ touches s l minute
   unfolding touches
   inverse-touches r n f h = is_not l.form 71 _ _ _ n (is l.form 80 _ _ _ f (rw (h, e, x, y)))
 

@@ -7,9 +7,9 @@ use Rattle.entries.specs.Layout.{one_minute}
 use Rattle.contents.specs.Contents.{Verdict}
 use Rattle.sheet_check.specs.Check.{check_of}
 use Rattle.tables.specs.Figures.{m_at}
-use Rattle.forward.specs.declared.Plane.{Plane}
-use Rattle.inverse.specs.declared.Geographic.{Geographic}
-use Rattle.convergence.specs.declared.Grid.{Grid}
+use Rattle.forward.specs.Forward.{PlaneTold}
+use Rattle.inverse.specs.Inverse.{GeographicTold}
+use Rattle.convergence.specs.Grid.{GridTold}
 use Rattle.convert.specs.Conversions.{geographic_to_plane, plane_to_geographic, convergence_and_scale}
 use Rattle.survey_cases.specs.Bytes.{bytes_of}
 use Rattle.survey_cases.specs.CaseSheet.{case_sheet}
@@ -24,13 +24,13 @@ abbrev pub marked : Bool → ℤ
 marked half = cond half (pos 1) (pos 0)
 
 -- An answer's number, its two values and its mark.
-abbrev pub on_plane : Plane → List ℤ
+abbrev pub on_plane : PlaneTold → List ℤ
 on_plane r = pos r.number ∷ r.x ∷ r.y ∷ marked r.half ∷ []
 
-abbrev pub on_earth : Geographic → List ℤ
+abbrev pub on_earth : GeographicTold → List ℤ
 on_earth r = pos r.number ∷ r.latitude ∷ r.longitude ∷ marked r.half ∷ []
 
-abbrev pub on_grid : Grid → List ℤ
+abbrev pub on_grid : GridTold → List ℤ
 on_grid r = pos r.number ∷ r.convergence ∷ r.scale ∷ marked r.half ∷ []
 
 -- The check's answer, "number, kind, row", before what else is told.

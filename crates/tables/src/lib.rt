@@ -6,12 +6,13 @@ ghost use Rattle.std.specs.Int.Signed.{le_z};
 ghost use Rattle.rounding.specs.Ranges.{most_h, most_v, most_a, most_b, most_c, most_p, most_m, most_d};
 ghost use Rattle.entries.specs.Layout.{last_kind, latitude, longitude, northing, easting, scale, width_of};
 ghost use Rattle.entries.specs.Entries.{rows_of};
+ghost use Rattle.contents.specs.Contents.{verdict_told};
 ghost use Rattle.sheet_check.specs.Check.{check_of, KnownToPass};
 ghost use Rattle.reading.specs.Tables.{offset_of, NotNegative};
 ghost use Rattle.row_search.specs.Rows.{last_not_above};
 ghost use Rattle.tables.specs.Figures.{InTable, figure_of, figure_at, figure_half, central_meridian_of, false_easting_of, first_latitude_of, origin_of, y0_of, y0_at, y0_half, h_at, h_half, v_at, v_half, a_at, a_half, b_at, b_half, c_at, c_half, p_at, p_half, m_at, m_half, d_at, d_half, k_at, k_half};
 
-use contents::{Table, Verdict};
+use contents::{Refused, Table};
 use entries::{EASTING, LATITUDE, LONGITUDE, NORTHING, Places, SCALE, ZONE};
 use reading::At;
 use rounding::Rounded;
@@ -151,14 +152,11 @@ pub fn known<'a>(sheet: &'a [u8], places: Places) -> Passed<'a>
     }
 }
 
-// The sheet where it passes the check; else the check's answer.
-pub fn pass<'a>(sheet: &'a [u8]) -> Result<Passed<'a>, Verdict>
-    ensures { MatchResult result (λ p. p.bytes.now ≡ sheet.now) (λ v. (v ≡ check_of sheet.now) × (v.number ≢ 0)) }
+// The sheet where it passes the check; else why it does not.
+pub fn pass<'a>(sheet: &'a [u8]) -> Result<Passed<'a>, Refused>
+    ensures { MatchResult result (λ p. p.bytes.now ≡ sheet.now) (λ e. verdict_told (Err e) ≡ check_of sheet.now) }
 {
-    let verdict = sheet_check::check(sheet);
-    if verdict.number != 0 {
-        return Err(verdict);
-    }
+    sheet_check::check(sheet)?;
     Ok(known(sheet, entries::places_of(sheet)))
 }
 

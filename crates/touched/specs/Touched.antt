@@ -15,10 +15,10 @@ use Rattle.minute_row.specs.MinuteRow.{named_row, has_row}
 use Rattle.touched.specs.declared.Touch.{Touch}
 
 -- The answer: a number, and whether the point's answer may change. Where the number is not 0 the question is refused: then `touched` is false, and says nothing of the point.
-abbrev pub touch : ℕ → Bool → Touch
+abbrev pub touch : ℕ → Bool → TouchTold
 touch number touched = record { number = number; touched = touched }
 
-abbrev pub no_touch : ℕ → Touch
+abbrev pub no_touch : ℕ → TouchTold
 no_touch number = touch number false
 
 -- Whether the sheet has a latitude row with the minute, and that row's number, both as a correction finds them.
@@ -58,13 +58,13 @@ inverse_touched s r x y =
     (above_prior s r (reduced_northing s (nat_abs (x_prime s x)) y) && below_next s r (reduced_northing s (nat_abs (x_prime s x)) y)))
 
 -- ---- "Each conversion gives the check's number first, then its own": so here, then 16, "no row with the correction's minute"
-unfoldable pub geographic_touched : List ℕ → ℤ → ℤ → ℤ → Touch
+unfoldable pub geographic_touched : List ℕ → ℤ → ℤ → ℤ → TouchTold
 geographic_touched s minute north west =
     after_check (λ t. t.number) no_touch s
     (need (has_minute s minute) (no_touch 16)
     (touch 0 (forward_touched s minute north west)))
 
-unfoldable pub plane_touched : List ℕ → ℤ → ℤ → ℤ → Touch
+unfoldable pub plane_touched : List ℕ → ℤ → ℤ → ℤ → TouchTold
 plane_touched s minute x y =
     after_check (λ t. t.number) no_touch s
     (need (has_minute s minute) (no_touch 16)
