@@ -13,35 +13,31 @@ returns c =
     let l = c.loop-i in
     let a = c.args in
     let e : l.i ≡ pairs a.points.now = omega arith in
-    record { count = rw (← e) l.invariant.3; memory = rw (← e) l.invariant.2 }
+    record { count = rw (← e) l.invariant.2; memory = rw (← e) l.invariant.1 }
 
 -- ---- what its loop keeps
 pub loop-i-init : goal.loop-i-init
 unfolding words answered
-loop-i-init c = (search rules, refl, refl, refl, search rules)
+loop-i-init c = (refl, refl, refl, search rules)
 
 pub loop-i-preserved : goal.loop-i-preserved
 loop-i-preserved c =
     let t = c.answer_one-count in
     let l = c.loop-i in
-    let fits = room _ _ c.requires.1 in (
-      search rules,
-      t.auto.answers ∙ l.invariant.1,
-      t.ensures.2 ∙ rw l.invariant.2 (written c.args.s.now c.args.points.now c.args.answers.now l.i (omega (arith, fits.1))),
-      rw (l.invariant.3, t.ensures.0) (counted c.args.s.now c.args.points.now l.i),
+    let fits = room _ _ c.requires in (
+      t.auto.answers ∙ l.invariant.0,
+      t.ensures.2 ∙ rw l.invariant.1 (written c.args.sheet.bytes.now c.args.points.now c.args.answers.now l.i (omega (arith, fits.1))),
+      rw (l.invariant.2, t.ensures.0) (counted c.args.sheet.bytes.now c.args.points.now l.i),
       omega (arith, t.ensures.1),
     )
 
 -- ---- what its operations ask
-pub origin_of-o-requires : goal.origin_of-o-requires
-origin_of-o-requires c = search rules
-
 pub answer_one-count-requires : goal.answer_one-count-requires
 answer_one-count-requires c =
-    let fits = room _ _ c.requires.1 in
-    (c.requires.0, c.origin_of-o.ensures, omega arith, omega (arith, fits.1))
+    let fits = room _ _ c.requires in
+    (omega arith, omega (arith, fits.1))
 
 pub overflow_add-count : goal.overflow_add-count
 overflow_add-count c =
-    let fits = room _ _ c.requires.1 in
-    record { fits = omega (arith, fits.0, c.answer_one-count.ensures.1, c.loop-i.invariant.4) }
+    let fits = room _ _ c.requires in
+    record { fits = omega (arith, fits.0, c.answer_one-count.ensures.1, c.loop-i.invariant.3) }

@@ -12,7 +12,7 @@ returns-then-form-eq-FORWARD c =
     let y = to_z-of_z {w = w32} {z = c.args.l.second} (sfits_of c.struct_told-then-form-eq-FORWARD-1.given.1.1.0.1) in
     let u = to_z-of_z {w = w32} {z = c.forward-r.result.x} (sfits_of c.struct_told-then-form-eq-FORWARD-2-1.given.1.0.1) in
     let v = to_z-of_z {w = w32} {z = c.forward-r.result.y} (sfits_of c.struct_told-then-form-eq-FORWARD-2-1.given.1.1.0.1) in
-    rw (u, v) (forward-values c.args.s.now c.args.l c.requires.passes _ _ x y c.forward-r.result c.if-form-eq-FORWARD.true c.forward-r.ensures)
+    rw (u, v) (forward-values c.args.sheet.bytes.now c.args.l c.args.sheet.known.passes _ _ x y c.forward-r.result c.if-form-eq-FORWARD.true c.forward-r.ensures)
 
 pub returns-then-form-eq-INVERSE : goal.returns-then-form-eq-INVERSE
 returns-then-form-eq-INVERSE c =
@@ -20,7 +20,7 @@ returns-then-form-eq-INVERSE c =
     let y = to_z-of_z {w = w32} {z = c.args.l.second} (sfits_of c.struct_told-then-form-eq-INVERSE-2-1.given.1.1.0.1) in
     let u = to_z-of_z {w = w32} {z = c.inverse-r.result.latitude} (sfits_of c.struct_told-then-form-eq-INVERSE-3-1.given.1.0.1) in
     let v = to_z-of_z {w = w32} {z = c.inverse-r.result.longitude} (sfits_of c.struct_told-then-form-eq-INVERSE-3-1.given.1.1.0.1) in
-    rw (u, v) (inverse-values c.args.s.now c.args.l c.requires.passes _ _ x y c.inverse-r.result c.if-form-eq-FORWARD.false c.if-form-eq-INVERSE.true c.inverse-r.ensures)
+    rw (u, v) (inverse-values c.args.sheet.bytes.now c.args.l c.args.sheet.known.passes _ _ x y c.inverse-r.result c.if-form-eq-FORWARD.false c.if-form-eq-INVERSE.true c.inverse-r.ensures)
 
 pub returns-then-form-eq-CONVERGENCE : goal.returns-then-form-eq-CONVERGENCE
 returns-then-form-eq-CONVERGENCE c =
@@ -28,7 +28,7 @@ returns-then-form-eq-CONVERGENCE c =
     let y = to_z-of_z {w = w32} {z = c.args.l.second} (sfits_of c.struct_told-then-form-eq-CONVERGENCE-2-1.given.1.1.0.1) in
     let u = to_z-of_z {w = w32} {z = c.convergence-r.result.convergence} (sfits_of c.struct_told-then-form-eq-CONVERGENCE-3-1.given.1.0.1) in
     let v = to_z-of_z {w = w32} {z = c.convergence-r.result.scale} (sfits_of c.struct_told-then-form-eq-CONVERGENCE-3-1.given.1.1.0.1) in
-    rw (u, v) (grid-values c.args.s.now c.args.l c.requires.passes _ _ x y c.convergence-r.result c.if-form-eq-FORWARD.false c.if-form-eq-INVERSE.false c.if-form-eq-CONVERGENCE.true c.convergence-r.ensures)
+    rw (u, v) (grid-values c.args.sheet.bytes.now c.args.l c.args.sheet.known.passes _ _ x y c.convergence-r.result c.if-form-eq-FORWARD.false c.if-form-eq-INVERSE.false c.if-form-eq-CONVERGENCE.true c.convergence-r.ensures)
 
 pub returns : goal.returns
 returns c = c.refusal.ensures ∙ none-known _ _ c.if-form-eq-FORWARD.false c.if-form-eq-INVERSE.false c.if-form-eq-CONVERGENCE.false
