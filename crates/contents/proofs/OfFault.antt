@@ -37,10 +37,6 @@ pub by_form : (s : List ℕ) (f : Form) (r : Verdict) → f ≡ form_of s → r 
 by_form s f r e q = rw (← e) q
 
 -- an error that `?` hands on
-pub handed_on : (r : Result (Unit {0}) Refused) (e : Refused) → IsErrAnd r (λ x. x ≡ e) → verdict_told r ≡ verdict_told (Err e)
-handed_on (Err x) e h = ap (λ y. verdict_told (Err y)) h
-handed_on (Ok _) e h = elim h [ ]
-
 pub matched_err : {A : Type 0} (P : A → Type 0) (r : Result A Refused) (e : Refused) (v : Verdict) → IsErrAnd r (λ x. x ≡ e) → verdict_told (Err e) ≡ v → MatchResult r P (λ x. verdict_told (Err x) ≡ v)
 matched_err P (Err x) e v h q = ap (λ y. verdict_told (Err y)) h ∙ q
 matched_err P (Ok _) e v h q = elim h [ ]

@@ -2,4 +2,5 @@
 pub mod Ranges
 pub mod Ladders
 pub mod Numbers
+pub mod Handed
 pub mod FirstFault

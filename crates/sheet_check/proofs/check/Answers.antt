@@ -4,8 +4,9 @@ use Prim.Native.Nat.{◌≤◌}
 use native.Mathlib.Omega.{arith}
 use borrow.Author.Rules.{rules}
 use Rattle.refusals.proofs.Numbers.{number-some}
+use Rattle.refusals.proofs.Handed.{handed}
 use Rattle.entries.specs.Layout.{last_kind}
-use Rattle.contents.proofs.OfFault.{handed_on}
+use Rattle.contents.specs.Contents.{verdict_told}
 use Rattle.sheet_check.proofs.ByKind.{contents_refuse, contents_pass, first_kind, kind_refused, kind_passed, kinds_end}
 use Rattle.sheet_check.proofs.check.Goals as goal
 
@@ -16,7 +17,7 @@ pub returns : goal.returns
 returns c = search kinds_end
 
 pub returns-in_err-contents : goal.returns-in_err-contents
-returns-in_err-contents c = handed_on _ _ c.from_residual.ensures.1 ∙ contents_refuse _ _ c.in_err-contents.ensures (number-some _)
+returns-in_err-contents c = handed verdict_told _ _ c.from_residual.ensures.1 ∙ contents_refuse _ _ c.in_err-contents.ensures (number-some _)
 
 pub loop-kind-init : goal.loop-kind-init
 loop-kind-init c = (omega arith, omega arith, contents_pass _ _ c.in_ok-contents.ensures refl, first_kind _ _ c.in_ok-contents.ensures refl)
