@@ -1,4 +1,4 @@
--- The door's ways out: a pair by its two floats, an answer by its number, and 15 by the pair. Assumes nothing.
+-- The door's ways out: two counts by the two floats, an answer by its number, and 15 where there are no two counts. Assumes nothing.
 use mathlib.Core.Bool.{Bool}
 use mathlib.Core.Path.{◌≡◌, refl, ap, ◌∙◌}
 use Prim.Native.Nat.{ℕ}
@@ -12,18 +12,15 @@ use Rattle.door.specs.declared.Answer.TheVariants.{Counts, Refused}
 use Rattle.counts.specs.Whole.{float, number_of, value_of}
 use Rattle.door.specs.Door.{both, answer_of, door_of}
 
--- ---- a pair
+-- ---- two counts
 pub first_none : (v w : Option ℤ) → v ≡ None → None ≡ both v w
-unfolding both
 first_none v w e = rw e
 
 pub second_none : (v w : Option ℤ) → w ≡ None → None ≡ both v w
-unfolding both
 second_none None w e = refl
 second_none (Some a) w e = rw e
 
 pub both-counts : (v w : Option ℤ) (a b : ℤ) → v ≡ Some a → w ≡ Some b → Some (a, b) ≡ both v w
-unfolding both
 both-counts v w a b e f = rw (e, f)
 
 -- ---- an answer
@@ -48,7 +45,7 @@ same_door (Some (a, b)) f g e = e a b
 
 -- of two that answer the same to the counts that the floats are, where both are counts
 pub same-counts : (v w : Option ℤ) (f g : ℤ → ℤ → Answer) → (number_of v ≡ 0 → number_of w ≡ 0 → f (value_of v) (value_of w) ≡ g (value_of v) (value_of w)) → door_of (both v w) f ≡ door_of (both v w) g
-unfolding door_of both
+unfolding door_of
 same-counts None w f g e = refl
 same-counts (Some a) None f g e = refl
 same-counts (Some a) (Some b) f g e = e refl refl

@@ -14,7 +14,7 @@ use Rattle.door.specs.declared.Answer.TheVariants.{Counts, Refused}
 use Rattle.counts.specs.Whole.{float, whole_of}
 
 -- "Drawing tools hand over a point as two f64 counts": both floats have to be counts.
-unfoldable pub both : Option ℤ → Option ℤ → Option (ℤ × ℤ)
+abbrev pub both : Option ℤ → Option ℤ → Option (ℤ × ℤ)
 both None w = None
 both (Some a) None = None
 both (Some a) (Some b) = Some (a, b)
