@@ -1,4 +1,3 @@
 -- Numbers as text.
 pub mod Reading
 pub mod Writing
-pub mod Counting
