@@ -1,19 +1,19 @@
 -- Bytes stored one after another, and a number's digits stored from the last one back. Assumes nothing.
 use mathlib.Core.Path.{◌≡◌, refl, sym, ap, ◌∙◌}
 use mathlib.Core.List.{List, [], ◌∷◌, ◌++◌}
-use Prim.Native.Nat.{ℕ, zero, suc, ◌+◌, ◌-◌, ◌*◌, ◌/◌, ◌%◌, ◌^◌, ◌≤◌, ◌<◌, max}
+use Prim.Native.Nat.{ℕ, zero, suc, ◌+◌, ◌-◌, ◌*◌, ◌/◌, ◌%◌, ◌^◌, ◌≤◌, ◌<◌}
 use native.Mathlib.Nat.{le_antisymm}
 use native.Mathlib.Numerals.{add-one}
 use native.Mathlib.Omega.{arith}
-use mathlib.Core.Bool.{Bool, true, false}
-use borrow.Author.Tests.{ltb-true, ltb-false}
-use lib.Dec.{ltb}
-use lib.Pow.{pow_pos}
+use mathlib.Core.Bool.{true, false}
+use borrow.Author.Tests.{ltb-true}
 use lib.IntN.{ℤ, pos, negsuc, nat_abs}
 use lib.Signed.{lt_z}
 use lib.ListN.{length, set, length-append}
 use lib.Seq.{sets, set_comm}
 use Rattle.refusals.proofs.Ladders.{below, beyond}
+use Rattle.decimal.specs.Counting.{Counting}
+use Rattle.decimal.proofs.DigitsRead.{powers}
 use Rattle.decimal.specs.Writing.{digits_needed_from, digits_needed, spelled, size_text, number_text, Wrote}
 
 -- ---- a run of stores after another is the run of both
@@ -75,57 +75,41 @@ module _ (left limit k v : ℕ) where
   unfolding digits_needed_from
   one-more-place h = rw (add-one left) (beyond v limit k (digits_needed_from left (10 * limit) (k + 1) v) (digits_needed_from left (10 * limit) (k + 1) v) h refl)
 
--- v has k digits or more, and `limit`, 10 to the k, is the least number that has more than k
-record Counting (v k limit : ℕ) : Type 0 where
-  pub same : digits_needed_from (20 - k) limit k v ≡ digits_needed v
-  pub power : limit ≡ 10 ^ k
-  pub most : k ≤ 19
-
-one_place : (v : ℕ) → Counting v 1 10
+pub one_place : (v : ℕ) → Counting v 1 10
 unfolding digits_needed
 one_place v = record { same = refl; power = refl; most = omega arith }
 
 module _ (v k limit : ℕ) (p : Counting v k limit) where
-  placed : v < limit → k ≡ digits_needed v
+  pub limit_small : k < 19 → limit * 10 < 2 ^ 64
+  limit_small h = omega (arith, p.power, powers k (18 - k) 18 (omega arith))
+
+  pub placed : v < limit → k ≡ digits_needed v
   placed h = let e : 19 - k + 1 ≡ 20 - k = omega (arith, p.most) in rw e at (enough (19 - k) limit k v h) ∙ p.same
 
-  next_place : k < 19 → limit ≤ v → Counting v (k + 1) (10 * limit)
+  pub next_place : k < 19 → limit ≤ v → Counting v (k + 1) (limit * 10)
   next_place l h =
       let e : 19 - k + 1 ≡ 20 - k = omega (arith, p.most) in
       let f : 20 - (k + 1) ≡ 19 - k = omega arith in
+      let m : limit * 10 ≡ 10 * limit = omega arith in
       record {
-        same = rw f (rw e at (one-more-place (19 - k) limit k v h) ∙ p.same);
+        same = rw (f, m) (rw e at (one-more-place (19 - k) limit k v h) ∙ p.same);
         power = rw (add-one k) (omega (arith, p.power));
         most = omega (arith, l);
       }
 
-  last-place : 19 ≤ k → limit ≤ v → 20 ≡ digits_needed v
+  pub last-place : 19 ≤ k → limit ≤ v → 20 ≡ digits_needed v
   unfolding digits_needed_from
   last-place l h =
       let e : k ≡ 19 = omega (arith, p.most, l) in
       one-more-place 0 limit 19 v h ∙ rw e at p.same
 
--- v has more than k digits where 10 to the k is not above it
-counted : (v k : ℕ) → k < 19 → 10 ^ k ≤ v → Counting v (suc k) (10 ^ suc k)
-counted v zero l h = one_place v
-counted v (suc k) l h =
-    let q = next_place v (suc k) (10 ^ suc k) (counted v k (omega arith) (omega arith)) l h in
-    let e : suc k + 1 ≡ suc (suc k) = omega arith in
-    let f : 10 * 10 ^ suc k ≡ 10 ^ suc (suc k) = omega arith in
-    rw (e, f) at q
-
--- where 10 to the k is the greatest power of ten that is not above v, and 1 for 0
-pub by_power : (v w k : ℕ) → w ≡ max v 1 → k < 20 → 10 ^ k ≤ w → w < 10 * 10 ^ k → k + 1 ≡ digits_needed v
-by_power zero w zero e l h g = placed 0 1 10 (one_place 0) (omega arith)
-by_power zero w (suc k) e l h g = absurd (omega (arith, pow_pos k))
-by_power (suc v) w k e l h g = go (ltb k 19) refl
-  where
-    go : (b : Bool) → ltb k 19 ≡ b → k + 1 ≡ digits_needed (suc v)
-    go true t = rw (add-one k) (placed (suc v) (suc k) (10 ^ suc k) (counted (suc v) k (ltb-true k 19 t) (omega arith)) (omega arith))
-    go false t =
-        let n : k ≡ 19 = omega (arith, ltb-false k 19 t) in
-        let h' : 10 ^ 19 ≤ w = rw n at h in
-        rw n (last-place (suc v) 19 (10 ^ 19) (counted (suc v) 18 (omega arith) (omega arith)) (omega arith) (omega arith))
+pub six_places : (v : ℕ) → 100_000 ≤ v → Counting v 6 1_000_000
+six_places v h =
+    let two = next_place v 1 10 (one_place v) (omega arith) (omega (arith, h)) in
+    let three = next_place v 2 100 two (omega arith) (omega (arith, h)) in
+    let four = next_place v 3 1_000 three (omega arith) (omega (arith, h)) in
+    let five = next_place v 4 10_000 four (omega arith) (omega (arith, h)) in
+    next_place v 5 100_000 five (omega arith) h
 
 pub length_size : (v k : ℕ) → k ≡ digits_needed v → length (size_text v) ≡ k
 unfolding size_text

@@ -1,3 +1,4 @@
 -- Numbers as text.
 pub mod Reading
 pub mod Writing
+pub mod Counting

@@ -4,6 +4,7 @@
 ghost use Rattle.std.specs.Prelude.{◌≡◌, ◌∷◌, [], ◌+◌, ◌^◌, ◌≤◌, ◌<◌, length, drop, get_or, IfSome};
 ghost use Rattle.std.proofs.lemmas.List.Edits.{sets};
 ghost use Rattle.decimal.specs.Reading.{digits_of, signed, number_of};
+ghost use Rattle.decimal.specs.Counting.{Counting};
 ghost use Rattle.decimal.specs.Writing.{digits_needed, spelled, size_text, number_text, Wrote};
 
 // Digits that were read: how many, and their value.
@@ -76,11 +77,29 @@ pub fn number_at(s: &[u8], at: usize) -> Option<Number>
 
 // ---- writing
 
-// How many digits v has.
+// How many digits v has, which are `least` or more; `power` is 10 to the `least`.
+fn digits_needed_from(v: u64, least: usize, power: u64) -> usize
+    requires { Counting v least power }
+    ensures { (result ≡ digits_needed v) × (result ≤ 20) }
+{
+    let mut limit = power;
+    for k in least..19 {
+        if v < limit {
+            return k;
+        }
+        limit *= 10;
+    }
+    if v < limit { 19 } else { 20 }
+}
+
+// How many digits v has. Most numbers of a point have more than five.
 fn digits_needed(v: u64) -> usize
     ensures { (result ≡ digits_needed v) × (result ≤ 20) }
 {
-    v.max(1).ilog10() as usize + 1
+    if v < 100_000 {
+        return digits_needed_from(v, 1, 10);
+    }
+    digits_needed_from(v, 6, 1_000_000)
 }
 
 // The last k digits of v, written from `at` on, two at a time from the last back.
@@ -92,8 +111,9 @@ fn spell(out: &mut [u8], at: usize, v: u64, k: usize)
     let mut rest = v;
     while 1 < i {
         i -= 2;
-        out[at + i + 1] = b'0' + (rest % 100 % 10) as u8;
-        out[at + i] = b'0' + (rest % 100 / 10) as u8;
+        let pair = (rest % 100) as u8;
+        out[at + i + 1] = b'0' + pair % 10;
+        out[at + i] = b'0' + pair / 10;
         rest /= 100;
     }
     if 0 < i {

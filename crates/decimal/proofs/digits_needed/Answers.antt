@@ -1,10 +1,9 @@
 -- `decimal::digits_needed` meets its contract. Assumes nothing.
-use native.Mathlib.Omega.{arith}
-use Rattle.decimal.proofs.Spelling.{by_power}
+use Rattle.decimal.proofs.Spelling.{one_place, six_places}
 use Rattle.decimal.proofs.digits_needed.Goals as goal
 
-pub returns : goal.returns
-returns c =
-    let h = c.max.ensures in
-    let g = c.ilog10.ensures in
-    (by_power c.args.v _ _ c.max.ensures g.bound g.power_le g.next_power_gt, omega (arith, g.bound))
+pub digits_needed_from-requires : goal.digits_needed_from-requires
+digits_needed_from-requires c = one_place _
+
+pub digits_needed_from-requires-2 : goal.digits_needed_from-requires-2
+digits_needed_from-requires-2 c = six_places _ c.if-v-lt100000.false
