@@ -1,25 +1,25 @@
 -- A size with a minus or none is a number of 32 bits exactly where its value fits them. Assumes nothing.
 use mathlib.Core.Path.{◌≡◌, refl, ◌∙◌}
-use mathlib.Core.Bool.{Bool, true, false, cond}
+use mathlib.Core.Bool.{Bool, true, false, ◌&&◌, cond}
 use mathlib.Core.List.{List}
 use Prim.Native.Nat.{ℕ, zero, suc, ◌+◌, ◌≤◌, ◌<◌, ◌^◌}
 use native.Mathlib.Nat.{lt_of_not-le}
 use native.Mathlib.Omega.{arith}
-use borrow.Author.Tests.{le-leb, lt-leb}
+use borrow.Author.Tests.{le-leb, lt-leb, leb-true}
 use lib.IntN.{ℤ, pos, negsuc, neg_ℤ, ◌-ℤ◌, +ℤ_idl}
-use lib.Dec.{eqb}
+use lib.Dec.{leb, eqb}
 use lib.ListN.{drop, get_or}
 use lib.Seq.{drop-drop, get_or-drop}
 use mir.Syntax.{w32, w64}
 use mir.Val.{SFits, to_z, of_z, bool_byte}
 use mir.ValLaws.{to_z_pos, to_z-of_z}
-use Rattle.std.specs.Prelude.{Result, Ok, Err, Option, Some, None}
+use Rattle.std.specs.Prelude.{Result, Ok, Err, Option, Some, None, IfSome, option_and_then}
 use Rattle.std.specs.Result.{OkIff, result_ok}
 use Rattle.refusals.specs.Ladder.{need}
 use Rattle.refusals.specs.Tests.{in_range}
 use Rattle.decimal.specs.declared.Digits.{Digits}
 use Rattle.decimal.specs.declared.Number.{Number}
-use Rattle.decimal.specs.Reading.{digits_of, minus_of, minus_length, number, signed_value, signed, number_of}
+use Rattle.decimal.specs.Reading.{digit_count, value_after, digits, digits_of, minus_of, minus_length, number, signed_value, signed, number_of}
 
 -- ---- 64 bits hold the value
 wide : (value : ℕ) → value < 10 ^ 10 → SFits w64 (neg_ℤ (pos value))
@@ -87,3 +87,30 @@ module _ (s : List ℕ) (at b l : ℕ) (e : b ≡ get_or s at 0) (f : l ≡ bool
   pub number_is : (d : Digits) (r : Option Number) → Some d ≡ digits_of (drop (at + l) s) → r ≡ signed (eqb b 45) d → r ≡ number_of (drop at s)
   unfolding number_of
   number_is d r h g = rw (rest, ← h, sign) g
+
+-- ---- how long it can be
+digits-most : (s : List ℕ) → IfSome (digits_of s) (λ d. d.count ≤ 10)
+unfolding digits_of need
+digits-most s = go (leb 1 (digit_count s)) (leb (digit_count s) 10) refl
+  where
+    go : (t u : Bool) → leb (digit_count s) 10 ≡ u → IfSome (need (t && u) None (Some (digits (digit_count s) (value_after 0 s)))) (λ d. d.count ≤ 10)
+    go true true e = leb-true (digit_count s) 10 e
+    go true false e = tt
+    go false u e = tt
+
+signed-most : (minus : Bool) (d : Digits) → d.count ≤ 10 → IfSome (signed minus d) (λ n. n.length ≤ 11)
+unfolding signed need
+signed-most minus d h = go (fits (signed_value minus d.value)) minus
+  where
+    go : (t m : Bool) → IfSome (need t None (Some (number (minus_length m + d.count) (signed_value minus d.value)))) (λ n. n.length ≤ 11)
+    go true true = omega arith
+    go true false = omega arith
+    go false m = tt
+
+pub number-most : (s : List ℕ) → IfSome (number_of s) (λ n. n.length ≤ 11)
+unfolding number_of
+number-most s = go (digits_of (drop (minus_length (minus_of s)) s)) (digits-most (drop (minus_length (minus_of s)) s))
+  where
+    go : (o : Option Digits) → IfSome o (λ d. d.count ≤ 10) → IfSome (option_and_then (signed (minus_of s)) o) (λ n. n.length ≤ 11)
+    go None h = tt
+    go (Some d) h = signed-most (minus_of s) d h
