@@ -11,16 +11,16 @@ use lib.Ieee.Fits.{down_pos, and_i, and_l, and_r, eq→eqb}
 use lib.Ieee.Back.{round_whole}
 use lib.Ieee.Exact.{HasValue}
 use borrow.Author.Tests.{le-leb}
-use Rattle.counts.specs.declared.Whole.TheVariants.{Count, No}
+use Rattle.std.specs.Prelude.{Some, None}
 use Rattle.counts.specs.Whole.{most_count, float, signed, whole_nat, whole_of}
 use Rattle.counts.specs.Meaning.{IsCount, Exactly}
 use Rattle.counts.proofs.Pattern.{valued}
 
-plain : (s : Bool) (m : ℕ) → m ≤ most_count → whole_nat s m 1 ≡ Count (signed s m)
+plain : (s : Bool) (m : ℕ) → m ≤ most_count → whole_nat s m 1 ≡ Some (signed s m)
 plain s m h = rw (mod-one m, div-one m, le-leb m most_count h)
 
 -- each count is the count of its own float
-pub own_float : (n : ℤ) → nat_abs n ≤ most_count → whole_of (of_int binary64 n) ≡ Count n
+pub own_float : (n : ℤ) → nat_abs n ≤ most_count → whole_of (of_int binary64 n) ≡ Some n
 unfolding of_int
 own_float (pos m) h = valued (round binary64 false m 1) false m 1 (lit≤ tt) (round_whole binary64 false m (omega arith)) ∙ plain false m h
 own_float (negsuc k) h = valued (round binary64 true (suc k) 1) true (suc k) 1 (lit≤ tt) (round_whole binary64 true (suc k) (omega arith)) ∙ plain true (suc k) h
@@ -60,7 +60,7 @@ size_of_lem true zero = refl
 size_of_lem true (suc k) = refl
 
 -- ---- what is answered as a count is that count
-pub only : (x : Float) (n : ℤ) → whole_of x ≡ Count n → (nat_abs n ≤ most_count) × T (eq x (of_int binary64 n))
+pub only : (x : Float) (n : ℤ) → whole_of x ≡ Some n → (nat_abs n ≤ most_count) × T (eq x (of_int binary64 n))
 unfolding whole_of
 only nan n h = let z : ◌≡◌ {A = ℕ} 0 1 = cc in absurd (omega arith)
 only (inf s) n h = let z : ◌≡◌ {A = ℕ} 0 1 = cc in absurd (omega arith)
@@ -69,7 +69,7 @@ only (fin s m e) n h = go (eqb (m * up e % down e) 0 && leb (m * up e / down e) 
     q : ℕ
     q = m * up e / down e
 
-    go : (b : Bool) → (eqb (m * up e % down e) 0 && leb q most_count) ≡ b → cond b (Count (signed s q)) No ≡ Count n → (nat_abs n ≤ most_count) × T (eq (fin s m e) (of_int binary64 n))
+    go : (b : Bool) → (eqb (m * up e % down e) 0 && leb q most_count) ≡ b → cond b (Some (signed s q)) None ≡ Some n → (nat_abs n ≤ most_count) × T (eq (fin s m e) (of_int binary64 n))
     go false t i = let z : ◌≡◌ {A = ℕ} 0 1 = cc in absurd (omega arith)
     go true t i =
         let tests : T (eqb (m * up e % down e) 0 && leb q most_count) = subst T (sym t) tt in
@@ -111,7 +111,7 @@ finish false false q h = refl
 finish true false q h = rw (eqb→eq q 0 h)
 finish false true q h = rw (eqb→eq q 0 h)
 
-of : (x : Float) (t : Bool) (q : ℕ) → q ≤ most_count → T (eq x (round binary64 t q 1)) → whole_of x ≡ Count (signed t q)
+of : (x : Float) (t : Bool) (q : ℕ) → q ≤ most_count → T (eq x (round binary64 t q 1)) → whole_of x ≡ Some (signed t q)
 unfolding eq
 of nan t q g h = absurd h
 of (inf s) t q g h = absurd (never s (round binary64 t q 1) h (round_whole binary64 t q (omega arith)))
@@ -122,9 +122,9 @@ of (inf s) t q g h = absurd (never s (round binary64 t q 1) h (round_whole binar
     never s (fin u k f) h v = h
 of (fin s m e) t q g h =
     let b = back s m e q t (round binary64 t q 1) h (round_whole binary64 t q (omega arith)) in
-    valued (fin s m e) s q 1 (lit≤ tt) (refl, b.0) ∙ plain s q g ∙ ap Count (finish s t q b.1)
+    valued (fin s m e) s q 1 (lit≤ tt) (refl, b.0) ∙ plain s q g ∙ ap Some (finish s t q b.1)
 
-pub every : (x : Float) (n : ℤ) → nat_abs n ≤ most_count → T (eq x (of_int binary64 n)) → whole_of x ≡ Count n
+pub every : (x : Float) (n : ℤ) → nat_abs n ≤ most_count → T (eq x (of_int binary64 n)) → whole_of x ≡ Some n
 unfolding of_int
 every x (pos m) g h = of x false m g h
 every x (negsuc k) g h = of x true (suc k) g h
@@ -141,14 +141,14 @@ exactly x = record {
   refused = λ e n h. never n e (always n h);
 }
   where
-    always : (n : ℤ) → IsCount x n → whole_of x ≡ Count n
+    always : (n : ℤ) → IsCount x n → whole_of x ≡ Some n
     always n h = every x n h.0 (subst T (sym h.1) tt)
 
-    never : (n : ℤ) → whole_of x ≡ No → whole_of x ≡ Count n → ⊥
+    never : (n : ℤ) → whole_of x ≡ None → whole_of x ≡ Some n → ⊥
     never n e f = let z : ◌≡◌ {A = ℕ} 0 1 = cc in omega arith
 
 -- "−0 is 0."
-pub minus_zero : (e : ℤ) → whole_of (fin true 0 e) ≡ Count (pos 0)
+pub minus_zero : (e : ℤ) → whole_of (fin true 0 e) ≡ Some (pos 0)
 unfolding whole_of
 minus_zero e = rw (zero-mul (up e), zero-mod (down e), zero-div (down e))
 

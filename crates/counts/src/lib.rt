@@ -4,13 +4,6 @@
 ghost use Rattle.std.specs.Prelude.{◌≡◌};
 ghost use Rattle.counts.specs.Whole.{whole_of};
 
-// The count that a float is; or no count.
-#[derive(Clone, Copy)]
-pub enum Whole {
-    Count(i32),
-    No,
-}
-
 // The fields of a float's 64 bits: the sign is the highest, eleven bits of exponent follow, and 52 digits under a leading one that is not written.
 const SIGN: u64 = 0x8000_0000_0000_0000;
 
@@ -26,32 +19,32 @@ const OF_MOST: u64 = 1053;
 const OF_UNIT: u64 = 1075;
 
 // The whole number within ±2,147,483,647 that x is. −0 is 0. A fraction, a larger number, an infinity and a NaN are no counts.
-pub fn whole_of(x: f64) -> Whole
+pub fn whole_of(x: f64) -> Option<i32>
     ensures { result ≡ whole_of x }
 {
-    if x != x {
-        return Whole::No; // a NaN
+    if x.is_nan() {
+        return None;
     }
-    let bits: u64 = f64::to_bits(x);
+    let bits = x.to_bits();
     let exponent = bits / LEADING % EXPONENTS;
     if exponent < OF_ONE {
         // below 1 in size
         if bits % SIGN == 0 {
-            return Whole::Count(0);
+            return Some(0);
         }
-        return Whole::No;
+        return None;
     }
     if OF_MOST < exponent {
-        return Whole::No; // 2,147,483,648 or more in size, or infinite
+        return None; // 2,147,483,648 or more in size, or infinite
     }
     let digits = LEADING + bits % LEADING;
     let unit: u64 = 1 << (OF_UNIT - exponent);
     if digits % unit != 0 {
-        return Whole::No; // a fraction
+        return None; // a fraction
     }
     let size = (digits / unit) as i32;
     if bits < SIGN {
-        return Whole::Count(size);
+        return Some(size);
     }
-    Whole::Count(0 - size)
+    Some(-size)
 }

@@ -1,110 +1,116 @@
--- A size with a minus or none is a number of 32 bits exactly where the size is at most 2,147,483,647, and one more after a minus. Assumes nothing.
-use mathlib.Core.Path.{◌≡◌, refl}
-use mathlib.Core.Bool.{Bool, true, false, cond}
+-- A size with a minus or none is a number of 32 bits exactly where its value fits them. Assumes nothing.
+use mathlib.Core.Path.{◌≡◌, refl, ◌∙◌}
+use mathlib.Core.Bool.{Bool, true, false, ◌&&◌, cond}
 use mathlib.Core.List.{List}
-use Prim.Native.Nat.{ℕ, zero, suc, ◌+◌, ◌≤◌, ◌<◌}
+use Prim.Native.Nat.{ℕ, zero, suc, ◌+◌, ◌≤◌, ◌<◌, ◌^◌}
+use native.Mathlib.Nat.{lt_of_not-le}
 use native.Mathlib.Omega.{arith}
-use borrow.Author.Tests.{le-leb, lt-leb, lt-ltb, leb-true}
-use lib.IntN.{pos, neg_ℤ}
-use lib.Dec.{leb, ltb, eqb}
+use borrow.Author.Tests.{le-leb, lt-leb, leb-true}
+use lib.IntN.{ℤ, pos, negsuc, neg_ℤ, ◌-ℤ◌, +ℤ_idl}
+use lib.Dec.{leb, eqb}
 use lib.ListN.{drop, get_or}
-use lib.Seq.{drop-drop}
-use mir.Syntax.{w32}
-use mir.Val.{SFits}
+use lib.Seq.{drop-drop, get_or-drop}
+use mir.Syntax.{w32, w64}
+use mir.Val.{SFits, to_z, of_z, bool_byte}
+use mir.ValLaws.{to_z_pos, to_z-of_z}
+use Rattle.std.specs.Prelude.{Result, Ok, Err, Option, Some, None, IfSome, option_and_then}
+use Rattle.std.specs.Result.{OkIff, result_ok}
 use Rattle.refusals.specs.Ladder.{need}
 use Rattle.refusals.specs.Tests.{in_range}
 use Rattle.decimal.specs.declared.Digits.{Digits}
 use Rattle.decimal.specs.declared.Number.{Number}
-use Rattle.decimal.specs.Reading.{digit_count, value_after, digits, digits_of, minus_of, number, no_number, signed_value, signed, number_of}
+use Rattle.decimal.specs.Reading.{digit_count, value_after, digits, digits_of, minus_of, minus_length, number, signed_value, signed, number_of}
 
-abbrev fits : ℕ → ℕ → Bool
-fits minus value = in_range (neg_ℤ (pos 2_147_483_648)) (signed_value minus value) (pos 2_147_483_647)
+-- ---- 64 bits hold the value
+wide : (value : ℕ) → value < 10 ^ 10 → SFits w64 (neg_ℤ (pos value))
+wide zero h = record { sfits = omega arith }
+wide (suc n) h = record { sfits = omega arith }
 
-plus_in : (v : ℕ) → v ≤ 2_147_483_647 → fits 0 v ≡ true
+module _ (value : ℕ) (h : value < 10 ^ 10) where
+  pub plus_value : to_z w64 value ≡ pos value
+  plus_value = to_z_pos w64 value (omega arith)
+
+  pub minus_value : to_z w64 (of_z w64 (pos 0 -ℤ to_z w64 value)) ≡ neg_ℤ (pos value)
+  minus_value = rw (plus_value, +ℤ_idl (neg_ℤ (pos value))) (to_z-of_z w64 (neg_ℤ (pos value)) (wide value h))
+
+-- ---- 32 bits hold it or do not
+abbrev fits : ℤ → Bool
+fits z = in_range (neg_ℤ (pos 2_147_483_648)) z (pos 2_147_483_647)
+
+held : (z : ℤ) → SFits w32 z → fits z ≡ true
 unfolding in_range
-plus_in v h = rw (le-leb v 2_147_483_647 h)
+held (pos n) h = rw (le-leb n 2_147_483_647 (omega (arith, h.sfits)))
+held (negsuc n) h = rw (le-leb n 2_147_483_647 (omega (arith, h.sfits)))
 
-plus_out : (v : ℕ) → 2_147_483_647 < v → fits 0 v ≡ false
+not_held : (z : ℤ) → (SFits w32 z → ⊥) → fits z ≡ false
 unfolding in_range
-plus_out v h = rw (lt-leb v 2_147_483_647 h)
+not_held (pos n) h = let g : 2_147_483_647 < n = lt_of_not-le (λ (l : n ≤ 2_147_483_647). h (record { sfits = omega arith })) in rw (lt-leb n 2_147_483_647 g)
+not_held (negsuc n) h = let g : 2_147_483_647 < n = lt_of_not-le (λ (l : n ≤ 2_147_483_647). h (record { sfits = omega arith })) in rw (lt-leb n 2_147_483_647 g)
 
-minus_in : (v : ℕ) → v ≤ 2_147_483_648 → fits 1 v ≡ true
-unfolding in_range
-minus_in zero h = refl
-minus_in (suc n) h = rw (le-leb n 2_147_483_647 (omega arith))
+byte_is : (minus : Bool) → bool_byte minus ≡ cond minus 1 0
+byte_is true = refl
+byte_is false = refl
 
-minus_out : (v : ℕ) → 2_147_483_648 < v → fits 1 v ≡ false
-unfolding in_range
-minus_out zero h = absurd (omega arith)
-minus_out (suc n) h = rw (lt-leb n 2_147_483_647 (omega arith))
+pub byte-most : (minus : Bool) → bool_byte minus ≤ 1
+byte-most true = omega arith
+byte-most false = omega arith
 
--- ---- the answer, by its tests
-of_none : (minus count value : ℕ) → fits minus value ≡ false → no_number ≡ signed minus count value
-unfolding signed need
-of_none minus zero value h = refl
-of_none minus (suc c) value h = rw (h, lt-ltb 0 (suc c) (omega arith))
+-- ---- the answer: r is what the code's conversion to 32 bits answers
+module _ {E : Type 0} (minus : Bool) (d : Digits) (z : ℤ) (e : z ≡ signed_value minus d.value) where
+  pub no_number : (r : Result ℤ E) → OkIff r (SFits w32 z) z → None ≡ result_ok r → None ≡ signed minus d
+  unfolding signed need
+  no_number (Ok x) f h = cc
+  no_number (Err q) f h = rw (not_held (signed_value minus d.value) (rw e at f))
 
-of_some : (minus count value : ℕ) → (count ≡ 0 → ⊥) → fits minus value ≡ true → number (minus + count) (signed_value minus value) ≡ signed minus count value
-unfolding signed need
-of_some minus zero value c h = absurd (c refl)
-of_some minus (suc n) value c h = rw (h, lt-ltb 0 (suc n) (omega arith))
+  pub a_number : (r : Result ℤ E) → OkIff r (SFits w32 z) z → (length : ℕ) (x : ℤ) → Some x ≡ result_ok r → length ≡ bool_byte minus
+      → Some (number (length + d.count) (to_z w32 (of_z w32 x))) ≡ signed minus d
+  unfolding signed need
+  a_number (Ok y) f length x h l =
+      let y_is : y ≡ signed_value minus d.value = f.1 ∙ e in
+      let x_is : x ≡ signed_value minus d.value = cc in
+      let fits : SFits w32 (signed_value minus d.value) = rw e at f.0 in
+      rw (held (signed_value minus d.value) fits, x_is, to_z-of_z w32 (signed_value minus d.value) fits, l, byte_is minus)
+  a_number (Err q) f length x h l = cc
 
-pub no_digits : (minus count value : ℕ) → count ≡ 0 → no_number ≡ signed minus count value
-unfolding signed need
-no_digits minus count value h = rw h
+-- ---- the whole of it: b is the byte at the place, and l how long the minus is
+module _ (s : List ℕ) (at b l : ℕ) (e : b ≡ get_or s at 0) (f : l ≡ bool_byte (eqb b 45)) where
+  sign : eqb (get_or (drop at s) 0 0) 45 ≡ eqb b 45
+  sign = let z : at + 0 ≡ at = omega arith in rw (get_or-drop at s 0 0, z, e)
 
-pub too_large : (minus count value : ℕ) → minus ≤ 1 → 2_147_483_647 + minus < value → no_number ≡ signed minus count value
-too_large zero count value h k = of_none 0 count value (plus_out value (omega arith))
-too_large (suc zero) count value h k = of_none 1 count value (minus_out value (omega arith))
-too_large (suc (suc n)) count value h k = absurd (omega arith)
+  rest : drop (minus_length (minus_of (drop at s))) (drop at s) ≡ drop (at + l) s
+  rest = rw (sign, f, byte_is (eqb b 45)) (drop-drop (cond (eqb b 45) 1 0) at s)
 
-pub plus_number : (minus count value : ℕ) → minus ≡ 0 → (count ≡ 0 → ⊥) → value ≤ 2_147_483_647 + minus → number count (pos value) ≡ signed minus count value
-plus_number zero count value z c k = let e : 0 + count ≡ count = omega arith in rw e at (of_some 0 count value c (plus_in value (omega arith)))
-plus_number (suc n) count value z c k = absurd (omega (arith, z))
+  pub no_number_at : None ≡ digits_of (drop (at + l) s) → None ≡ number_of (drop at s)
+  unfolding number_of
+  no_number_at h = rw (rest, ← h)
 
-pub minus_number : (minus count value : ℕ) → (minus ≡ 0 → ⊥) → minus ≤ 1 → (count ≡ 0 → ⊥) → value ≤ 2_147_483_647 + minus → number (count + 1) (neg_ℤ (pos value)) ≡ signed minus count value
-minus_number zero count value z m c k = absurd (z refl)
-minus_number (suc zero) count value z m c k = let e : 1 + count ≡ count + 1 = omega arith in rw e at (of_some 1 count value c (minus_in value (omega arith)))
-minus_number (suc (suc n)) count value z m c k = absurd (omega arith)
-
--- ---- 32 bits hold it
-pub minus_held : (value : ℕ) → value ≤ 2_147_483_648 → SFits w32 (neg_ℤ (pos value))
-minus_held zero h = record { sfits = omega arith }
-minus_held (suc n) h = record { sfits = omega arith }
-
--- ---- the whole of it
-pub number_is : (s : List ℕ) (at minus : ℕ) (d : Digits) (r : Number) → minus ≡ minus_of (drop at s) → d ≡ digits_of (drop (at + minus) s) → r ≡ signed minus d.count d.value → r ≡ number_of (drop at s)
-unfolding number_of
-number_is s at minus d r m e h = rw (← m, drop-drop minus at s, ← e) h
+  pub number_is : (d : Digits) (r : Option Number) → Some d ≡ digits_of (drop (at + l) s) → r ≡ signed (eqb b 45) d → r ≡ number_of (drop at s)
+  unfolding number_of
+  number_is d r h g = rw (rest, ← h, sign) g
 
 -- ---- how long it can be
-digits-most : (s : List ℕ) → (digits_of s).count ≤ 10
-unfolding digits_of
-digits-most s = go (leb (digit_count s) 10) refl
+digits-most : (s : List ℕ) → IfSome (digits_of s) (λ d. d.count ≤ 10)
+unfolding digits_of need
+digits-most s = go (leb 1 (digit_count s)) (leb (digit_count s) 10) refl
   where
-    go : (t : Bool) → leb (digit_count s) 10 ≡ t → (cond t (digits (digit_count s) (value_after 0 s)) (digits 0 0)).count ≤ 10
-    go true t = leb-true (digit_count s) 10 t
-    go false t = omega arith
+    go : (t u : Bool) → leb (digit_count s) 10 ≡ u → IfSome (need (t && u) None (Some (digits (digit_count s) (value_after 0 s)))) (λ d. d.count ≤ 10)
+    go true true e = leb-true (digit_count s) 10 e
+    go true false e = tt
+    go false u e = tt
 
-minus_most : (s : List ℕ) → minus_of s ≤ 1
-unfolding minus_of
-minus_most s = go (eqb (get_or s 0 0) 45)
-  where
-    go : (t : Bool) → cond t 1 0 ≤ 1
-    go true = omega arith
-    go false = omega arith
-
-signed-most : (minus count value : ℕ) → (signed minus count value).length ≤ minus + count
+signed-most : (minus : Bool) (d : Digits) → d.count ≤ 10 → IfSome (signed minus d) (λ n. n.length ≤ 11)
 unfolding signed need
-signed-most minus count value = go (ltb 0 count) (fits minus value)
+signed-most minus d h = go (fits (signed_value minus d.value)) minus
   where
-    go : (t u : Bool) → (need t no_number (need u no_number (number (minus + count) (signed_value minus value)))).length ≤ minus + count
+    go : (t m : Bool) → IfSome (need t None (Some (number (minus_length m + d.count) (signed_value minus d.value)))) (λ n. n.length ≤ 11)
     go true true = omega arith
     go true false = omega arith
-    go false u = omega arith
+    go false m = tt
 
-pub number-most : (s : List ℕ) → (number_of s).length ≤ 11
+pub number-most : (s : List ℕ) → IfSome (number_of s) (λ n. n.length ≤ 11)
 unfolding number_of
-number-most s =
-    let d = digits_of (drop (minus_of s) s) in
-    omega (arith, signed-most (minus_of s) d.count d.value, minus_most s, digits-most (drop (minus_of s) s))
+number-most s = go (digits_of (drop (minus_length (minus_of s)) s)) (digits-most (drop (minus_length (minus_of s)) s))
+  where
+    go : (o : Option Digits) → IfSome o (λ d. d.count ≤ 10) → IfSome (option_and_then (signed (minus_of s)) o) (λ n. n.length ≤ 11)
+    go None h = tt
+    go (Some d) h = signed-most (minus_of s) d h

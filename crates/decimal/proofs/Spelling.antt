@@ -80,18 +80,19 @@ unfolding digits_needed
 one_place v = record { same = refl; power = refl; most = omega arith }
 
 module _ (v k limit : ℕ) (p : Counting v k limit) where
-  pub limit_small : k < 19 → 10 * limit < 2 ^ 64
+  pub limit_small : k < 19 → limit * 10 < 2 ^ 64
   limit_small h = omega (arith, p.power, powers k (18 - k) 18 (omega arith))
 
   pub placed : v < limit → k ≡ digits_needed v
   placed h = let e : 19 - k + 1 ≡ 20 - k = omega (arith, p.most) in rw e at (enough (19 - k) limit k v h) ∙ p.same
 
-  pub next_place : k < 19 → limit ≤ v → Counting v (k + 1) (10 * limit)
+  pub next_place : k < 19 → limit ≤ v → Counting v (k + 1) (limit * 10)
   next_place l h =
       let e : 19 - k + 1 ≡ 20 - k = omega (arith, p.most) in
       let f : 20 - (k + 1) ≡ 19 - k = omega arith in
+      let m : limit * 10 ≡ 10 * limit = omega arith in
       record {
-        same = rw f (rw e at (one-more-place (19 - k) limit k v h) ∙ p.same);
+        same = rw (f, m) (rw e at (one-more-place (19 - k) limit k v h) ∙ p.same);
         power = rw (add-one k) (omega (arith, p.power));
         most = omega (arith, l);
       }

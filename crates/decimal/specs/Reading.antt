@@ -1,5 +1,5 @@
 -- A number read from the front of bytes: "decimal, optional minus, one to ten digits, within 32 bits".
-use Rattle.std.specs.Prelude.{ℕ, suc, ◌+◌, ◌-◌, ◌*◌, ◌&&◌, cond, List, [], ◌∷◌, leb, ltb, eqb, ℤ, pos, neg_ℤ, drop, get_or}
+use Rattle.std.specs.Prelude.{ℕ, suc, ◌+◌, ◌-◌, ◌*◌, Bool, ◌&&◌, cond, List, [], ◌∷◌, leb, eqb, ℤ, pos, neg_ℤ, drop, get_or, Option, Some, None, option_and_then}
 use Rattle.refusals.specs.Ladder.{need}
 use Rattle.refusals.specs.Tests.{in_range}
 use Rattle.decimal.specs.declared.Digits.{Digits}
@@ -21,33 +21,30 @@ value_after v (b ∷ s) = cond (leb (digit_of b) 9) (value_after (10 * v + digit
 abbrev pub digits : ℕ → ℕ → Digits
 digits count value = record { count = count; value = value }
 
--- "one to ten digits"; where there are none, or more than ten, the count is 0.
-unfoldable pub digits_of : List ℕ → Digits
-digits_of s = cond (leb (digit_count s) 10) (digits (digit_count s) (value_after 0 s)) (digits 0 0)
+-- "one to ten digits"; none where there are fewer or more.
+unfoldable pub digits_of : List ℕ → Option Digits
+digits_of s = need (leb 1 (digit_count s) && leb (digit_count s) 10) None (Some (digits (digit_count s) (value_after 0 s)))
 
--- "optional minus": 1 where one stands at the front.
-unfoldable pub minus_of : List ℕ → ℕ
-minus_of s = cond (eqb (get_or s 0 0) 45) 1 0
+-- "optional minus": whether one stands at the front, and how many bytes it takes.
+abbrev pub minus_of : List ℕ → Bool
+minus_of s = eqb (get_or s 0 0) 45
+
+abbrev pub minus_length : Bool → ℕ
+minus_length minus = cond minus 1 0
 
 abbrev pub number : ℕ → ℤ → Number
 number length value = record { length = length; value = value }
 
-abbrev pub no_number : Number
-no_number = number 0 (pos 0)
-
--- The value after so many minuses, 0 or 1.
-abbrev pub signed_value : ℕ → ℕ → ℤ
-signed_value minus value = cond (eqb minus 0) (pos value) (neg_ℤ (pos value))
+-- The value after a minus, or after none.
+abbrev pub signed_value : Bool → ℕ → ℤ
+signed_value minus value = cond minus (neg_ℤ (pos value)) (pos value)
 
 -- "within 32 bits"
-unfoldable pub signed : ℕ → ℕ → ℕ → Number
-signed minus count value =
-    need (ltb 0 count) no_number
-    (need (in_range (neg_ℤ (pos 2_147_483_648)) (signed_value minus value) (pos 2_147_483_647)) no_number
-    (number (minus + count) (signed_value minus value)))
+unfoldable pub signed : Bool → Digits → Option Number
+signed minus d =
+    need (in_range (neg_ℤ (pos 2_147_483_648)) (signed_value minus d.value) (pos 2_147_483_647)) None
+    (Some (number (minus_length minus + d.count) (signed_value minus d.value)))
 
--- The number at the front, and how many bytes it takes. Where there is none, or 32 bits do not hold it, the length is 0.
-unfoldable pub number_of : List ℕ → Number
-number_of s =
-    let d = digits_of (drop (minus_of s) s) in
-    signed (minus_of s) d.count d.value
+-- The number at the front, and how many bytes it takes. None where there are not one to ten digits, or 32 bits do not hold it.
+unfoldable pub number_of : List ℕ → Option Number
+number_of s = option_and_then (signed (minus_of s)) (digits_of (drop (minus_length (minus_of s)) s))

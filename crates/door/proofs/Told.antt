@@ -9,8 +9,7 @@ use lib.IntN.{ℤ, pos}
 use Rattle.convert.specs.Conversions.{geographic_to_plane, plane_to_geographic, convergence_and_scale}
 use Rattle.convert.proofs.Zeros.{Zeroed, plane_zeros, geographic_zeros, grid_zeros}
 use Rattle.door.specs.declared.Point.{Point}
-use Rattle.counts.specs.declared.Whole.{Whole}
-use Rattle.counts.specs.declared.Whole.TheVariants.{Count, No}
+use Rattle.std.specs.Prelude.{Option, Some, None}
 use Rattle.door.specs.declared.Answer.{Answer}
 use Rattle.door.specs.declared.Answer.TheVariants.{Refused}
 use Rattle.counts.specs.Whole.{float, whole_of, value_of}
@@ -38,13 +37,13 @@ fifteen : (answer : Answer) → Refused 15 ≡ answer → Told answer 15 (pos 0)
 fifteen answer e = record { numbered = ap number_of (sym e); one = ap first_of (sym e); two = ap second_of (sym e); marked = ap half_of (sym e) }
 
 -- ---- a float by its number
-is_count : (w : Whole) → whole.number_of w ≡ 0 → w ≡ Count (value_of w)
-is_count (Count n) e = refl
-is_count No e = absurd (omega (arith, e))
+is_count : (w : Option ℤ) → whole.number_of w ≡ 0 → w ≡ Some (value_of w)
+is_count (Some n) e = refl
+is_count None e = absurd (omega (arith, e))
 
-is_none : (w : Whole) → whole.number_of w ≡ 15 → w ≡ No
-is_none (Count n) e = absurd (omega (arith, e))
-is_none No e = refl
+is_none : (w : Option ℤ) → whole.number_of w ≡ 15 → w ≡ None
+is_none (Some n) e = absurd (omega (arith, e))
+is_none None e = refl
 
 -- ---- a door, of any conversion f whose refusals carry zeros and no half
 module _ {R : Type 0} (f : ℤ → ℤ → R) (number : R → ℕ) (one two : R → ℤ) (half : R → Bool) (z : (a b : ℤ) → Zeroed number one two half (f a b)) where
@@ -54,7 +53,7 @@ module _ {R : Type 0} (f : ℤ → ℤ → R) (number : R → ℕ) (one two : R 
   abbrev door : Point → Answer
   door p = door_of (counts_of p) (λ a b. tell (f a b))
 
-  of_counts : (p : Point) (a b : ℤ) → whole_of p.first ≡ Count a → whole_of p.second ≡ Count b
+  of_counts : (p : Point) (a b : ℤ) → whole_of p.first ≡ Some a → whole_of p.second ≡ Some b
       → Told (door p) (number (f a b)) (one (f a b)) (two (f a b)) (half (f a b))
   of_counts p a b e g =
       let through : tell (f a b) ≡ door p = after f tell (counts_of p) (tell (f a b)) (sym (both-counts _ _ a b e g)) refl refl refl refl in

@@ -1,4 +1,4 @@
--- The door's ways out: a pair by its two floats, an answer by its number, and 15 by the pair. Assumes nothing.
+-- The door's ways out: two counts by the two floats, an answer by its number, and 15 where there are no two counts. Assumes nothing.
 use mathlib.Core.Bool.{Bool}
 use mathlib.Core.Path.{◌≡◌, refl, ap, ◌∙◌}
 use Prim.Native.Nat.{ℕ}
@@ -6,27 +6,21 @@ use lib.IntN.{ℤ}
 use borrow.Author.Tests.{eq-eqb, ne_eqb}
 use Rattle.refusals.specs.Ladder.{need}
 use Rattle.rounding.proofs.Bits.{both-same}
-use Rattle.counts.specs.declared.Whole.{Whole}
-use Rattle.counts.specs.declared.Whole.TheVariants as Whole
-use Rattle.door.specs.declared.Pair.{Pair}
-use Rattle.door.specs.declared.Pair.TheVariants as Pair
+use Rattle.std.specs.Prelude.{Option, Some, None}
 use Rattle.door.specs.declared.Answer.{Answer}
 use Rattle.door.specs.declared.Answer.TheVariants.{Counts, Refused}
 use Rattle.counts.specs.Whole.{float, number_of, value_of}
 use Rattle.door.specs.Door.{both, answer_of, door_of}
 
--- ---- a pair
-pub first_none : (v w : Whole) → v ≡ Whole.No → Pair.No ≡ both v w
-unfolding both
+-- ---- two counts
+pub first_none : (v w : Option ℤ) → v ≡ None → None ≡ both v w
 first_none v w e = rw e
 
-pub second_none : (v w : Whole) → w ≡ Whole.No → Pair.No ≡ both v w
-unfolding both
-second_none Whole.No w e = refl
-second_none (Whole.Count a) w e = rw e
+pub second_none : (v w : Option ℤ) → w ≡ None → None ≡ both v w
+second_none None w e = refl
+second_none (Some a) w e = rw e
 
-pub both-counts : (v w : Whole) (a b : ℤ) → v ≡ Whole.Count a → w ≡ Whole.Count b → Pair.Of a b ≡ both v w
-unfolding both
+pub both-counts : (v w : Option ℤ) (a b : ℤ) → v ≡ Some a → w ≡ Some b → Some (a, b) ≡ both v w
 both-counts v w a b e f = rw (e, f)
 
 -- ---- an answer
@@ -39,25 +33,25 @@ unfolding answer_of need
 answers number a b half e = rw (eq-eqb number 0 e)
 
 -- ---- the door, before the sheet and after
-pub before : (p : Pair) (convert : ℤ → ℤ → Answer) → p ≡ Pair.No → Refused 15 ≡ door_of p convert
+pub before : (p : Option (ℤ × ℤ)) (convert : ℤ → ℤ → Answer) → p ≡ None → Refused 15 ≡ door_of p convert
 unfolding door_of
 before p convert e = rw e
 
 -- of two conversions that answer the same to each two counts
-pub same_door : (p : Pair) (f g : ℤ → ℤ → Answer) → ((a b : ℤ) → f a b ≡ g a b) → door_of p f ≡ door_of p g
+pub same_door : (p : Option (ℤ × ℤ)) (f g : ℤ → ℤ → Answer) → ((a b : ℤ) → f a b ≡ g a b) → door_of p f ≡ door_of p g
 unfolding door_of
-same_door Pair.No f g e = refl
-same_door (Pair.Of a b) f g e = e a b
+same_door None f g e = refl
+same_door (Some (a, b)) f g e = e a b
 
 -- of two that answer the same to the counts that the floats are, where both are counts
-pub same-counts : (v w : Whole) (f g : ℤ → ℤ → Answer) → (number_of v ≡ 0 → number_of w ≡ 0 → f (value_of v) (value_of w) ≡ g (value_of v) (value_of w)) → door_of (both v w) f ≡ door_of (both v w) g
-unfolding door_of both
-same-counts Whole.No w f g e = refl
-same-counts (Whole.Count a) Whole.No f g e = refl
-same-counts (Whole.Count a) (Whole.Count b) f g e = e refl refl
+pub same-counts : (v w : Option ℤ) (f g : ℤ → ℤ → Answer) → (number_of v ≡ 0 → number_of w ≡ 0 → f (value_of v) (value_of w) ≡ g (value_of v) (value_of w)) → door_of (both v w) f ≡ door_of (both v w) g
+unfolding door_of
+same-counts None w f g e = refl
+same-counts (Some a) None f g e = refl
+same-counts (Some a) (Some b) f g e = e refl refl
 
 -- a and b as the conversion reads them from their bits are a' and b', and `tell` gives the tools what it answers
-pub after : {R : Type 0} (f : ℤ → ℤ → R) (tell : R → Answer) (p : Pair) {a b a' b' : ℤ} {r : R} (answer : Answer)
-    → p ≡ Pair.Of a b → a' ≡ a → b' ≡ b → r ≡ f a' b' → answer ≡ tell r → answer ≡ door_of p (λ a b. tell (f a b))
+pub after : {R : Type 0} (f : ℤ → ℤ → R) (tell : R → Answer) (p : Option (ℤ × ℤ)) {a b a' b' : ℤ} {r : R} (answer : Answer)
+    → p ≡ Some (a, b) → a' ≡ a → b' ≡ b → r ≡ f a' b' → answer ≡ tell r → answer ≡ door_of p (λ a b. tell (f a b))
 unfolding door_of
 after f tell p answer e one two worked told = told ∙ ap tell (worked ∙ both-same f one two) ∙ rw e

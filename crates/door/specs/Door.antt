@@ -1,6 +1,6 @@
 -- "Tools' door." What the door answers to a point, by the definitions of the conversions in `convert`.
 -- s is the sheet, p the point.
-use Rattle.std.specs.Prelude.{Bool, false, List, ℕ, eqb, ℤ, pos, Float}
+use Rattle.std.specs.Prelude.{Bool, false, List, ℕ, eqb, ℤ, pos, Option, Some, None, Float}
 use Rattle.std.specs.Float.{binary64}
 use Rattle.std.specs.Float.Ieee.{div}
 use Rattle.refusals.specs.Ladder.{need}
@@ -9,21 +9,17 @@ use Rattle.inverse.specs.Inverse.{GeographicTold}
 use Rattle.convergence.specs.Grid.{GridTold}
 use Rattle.convert.specs.Conversions.{geographic_to_plane, plane_to_geographic, convergence_and_scale}
 use Rattle.door.specs.declared.Point.{Point}
-use Rattle.counts.specs.declared.Whole.{Whole}
-use Rattle.counts.specs.declared.Whole.TheVariants as Whole
-use Rattle.door.specs.declared.Pair.{Pair}
-use Rattle.door.specs.declared.Pair.TheVariants as Pair
 use Rattle.door.specs.declared.Answer.{Answer}
 use Rattle.door.specs.declared.Answer.TheVariants.{Counts, Refused}
 use Rattle.counts.specs.Whole.{float, whole_of}
 
 -- "Drawing tools hand over a point as two f64 counts": both floats have to be counts.
-unfoldable pub both : Whole → Whole → Pair
-both Whole.No w = Pair.No
-both (Whole.Count a) Whole.No = Pair.No
-both (Whole.Count a) (Whole.Count b) = Pair.Of a b
+abbrev pub both : Option ℤ → Option ℤ → Option (ℤ × ℤ)
+both None w = None
+both (Some a) None = None
+both (Some a) (Some b) = Some (a, b)
 
-abbrev pub counts_of : Point → Pair
+abbrev pub counts_of : Point → Option (ℤ × ℤ)
 counts_of p = both (whole_of p.first) (whole_of p.second)
 
 -- "and get two f64 counts or a refusal number", and "the f64 answers carry it": a conversion's number, its two values and whether it met a half, as the tools get them.
@@ -50,9 +46,9 @@ half_of (Counts a b half) = half
 half_of (Refused n) = false
 
 -- "15 is answered before the sheet is looked at": `convert` is what looks at it, and is asked only where both floats are counts.
-unfoldable pub door_of : Pair → (ℤ → ℤ → Answer) → Answer
-door_of Pair.No convert = Refused 15
-door_of (Pair.Of a b) convert = convert a b
+unfoldable pub door_of : Option (ℤ × ℤ) → (ℤ → ℤ → Answer) → Answer
+door_of None convert = Refused 15
+door_of (Some p) convert = convert p.0 p.1
 
 -- Each conversion's answer, as the tools get it.
 abbrev pub plane_answer : PlaneTold → Answer

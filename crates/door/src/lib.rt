@@ -5,8 +5,6 @@
 ghost use Rattle.std.specs.Prelude.{◌≡◌};
 ghost use Rattle.door.specs.Door.{counts_of, answer_of, to_plane, to_geographic, to_grid, feet_of};
 
-use counts::Whole;
-
 // The tools' point: latitude and west longitude in 0.001″, or x and y in 0.01 ft, in this order.
 #[derive(Clone, Copy)]
 pub struct Point {
@@ -22,24 +20,13 @@ pub enum Answer {
     Refused(u32),
 }
 
-// The counts that a point's floats are; none where one of the two is no count.
-#[derive(Clone, Copy)]
-pub enum Pair {
-    Of(i32, i32),
-    No,
-}
-
-// Both of the point's floats as counts.
-fn counts_of(p: Point) -> Pair
+// Both of the point's floats as counts; none where one of the two is no count.
+fn counts_of(p: Point) -> Option<(i32, i32)>
     ensures { result ≡ counts_of p }
 {
-    let Whole::Count(a) = counts::whole_of(p.first) else {
-        return Pair::No;
-    };
-    let Whole::Count(b) = counts::whole_of(p.second) else {
-        return Pair::No;
-    };
-    Pair::Of(a, b)
+    let a = counts::whole_of(p.first)?;
+    let b = counts::whole_of(p.second)?;
+    Some((a, b))
 }
 
 // A conversion's number, its two values and whether it met a half, as the tools get them: the number where it is not 0, else the values as floats, and the mark.
@@ -57,7 +44,7 @@ fn answer_of(number: u32, a: i32, b: i32, half: bool) -> Answer
 pub fn geographic_to_plane(sheet: &[u8], p: Point) -> Answer
     ensures { result ≡ to_plane sheet.now p }
 {
-    let Pair::Of(latitude, longitude) = counts_of(p) else {
+    let Some((latitude, longitude)) = counts_of(p) else {
         return Answer::Refused(15);
     };
     let r = convert::geographic_to_plane(sheet, latitude, longitude);
@@ -69,7 +56,7 @@ pub fn geographic_to_plane(sheet: &[u8], p: Point) -> Answer
 pub fn plane_to_geographic(sheet: &[u8], p: Point) -> Answer
     ensures { result ≡ to_geographic sheet.now p }
 {
-    let Pair::Of(x, y) = counts_of(p) else {
+    let Some((x, y)) = counts_of(p) else {
         return Answer::Refused(15);
     };
     let r = convert::plane_to_geographic(sheet, x, y);
@@ -81,7 +68,7 @@ pub fn plane_to_geographic(sheet: &[u8], p: Point) -> Answer
 pub fn convergence_and_scale(sheet: &[u8], p: Point) -> Answer
     ensures { result ≡ to_grid sheet.now p }
 {
-    let Pair::Of(x, y) = counts_of(p) else {
+    let Some((x, y)) = counts_of(p) else {
         return Answer::Refused(15);
     };
     let r = convert::convergence_and_scale(sheet, x, y);

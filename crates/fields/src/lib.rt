@@ -1,43 +1,48 @@
 // A line's numbers one after another, each with what has to stand behind it: a blank, or the line's end. `at` goes up to 48, the last place where a fifth number can stand.
 #![tactic(auto)]
 
-ghost use Rattle.std.specs.Prelude.{◌≡◌, ◌+◌, ◌≤◌};
+ghost use Rattle.std.specs.Prelude.{◌≡◌, ◌+◌, ◌≤◌, IfSome};
 ghost use Rattle.fields.specs.Fields.{field_at, last_at};
 
-// A number in the line: whether it is there and ends as it has to, its value, and where the next one would stand. Where there is none, value and place say nothing.
+// A number in the line that ends as it has to: its value, and where the next one would stand.
 #[derive(Clone, Copy)]
 pub struct Field {
-    pub found: bool,
     pub value: i32,
     pub next: usize,
 }
 
-pub const BLANK: u8 = 32;
+pub const BLANK: u8 = b' ';
 
 // The number from `at` on, with a blank behind it.
-pub fn field_at(line: &[u8], at: usize) -> Field
+#[tactic(auto, unfolding(crate::specs::Fields::field_at))]
+pub fn field_at(line: &[u8], at: usize) -> Option<Field>
     requires { at ≤ 48 }
-    ensures { (result ≡ field_at line.now at) × (result.next ≤ at + 12) }
+    ensures { (result ≡ field_at line.now at) × IfSome result (λ f. f.next ≤ at + 12) }
 {
-    let n = decimal::number_at(line, at);
-    let length = n.length;
-    Field {
-        found: (0 < length) & (decimal::byte_at(line, at + length) == BLANK),
-        value: n.value,
-        next: at + length + 1,
+    let n = decimal::number_at(line, at)?;
+    let end = at + n.length;
+    if decimal::byte_at(line, end) != BLANK {
+        return None;
     }
+    Some(Field {
+        value: n.value,
+        next: end + 1,
+    })
 }
 
 // The number from `at` on, with the line's end behind it.
-pub fn last_at(line: &[u8], at: usize) -> Field
+#[tactic(auto, unfolding(crate::specs::Fields::last_at))]
+pub fn last_at(line: &[u8], at: usize) -> Option<Field>
     requires { at ≤ 48 }
     ensures { result ≡ last_at line.now at }
 {
-    let n = decimal::number_at(line, at);
-    let length = n.length;
-    Field {
-        found: (0 < length) & (at + length == line.len()),
-        value: n.value,
-        next: at + length,
+    let n = decimal::number_at(line, at)?;
+    let end = at + n.length;
+    if end != line.len() {
+        return None;
     }
+    Some(Field {
+        value: n.value,
+        next: end,
+    })
 }

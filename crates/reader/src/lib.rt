@@ -13,33 +13,31 @@ pub struct Reader<'a> {
     pub place: usize,
 }
 
-// An entry of the contents: kind, start (a word number) and rows, read without a sign and not judged; or the end, where there is none.
+// An entry of the contents: kind, start (a word number) and rows, read without a sign and not judged.
 #[derive(Clone, Copy)]
-pub enum Entry {
-    Of(u32, u32, u32),
-    End,
+pub struct Entry {
+    pub kind: u32,
+    pub start: u32,
+    pub rows: u32,
 }
 
-// The entry whose first word is at the place.
-pub fn entry_at(s: &[u8], place: usize) -> Entry
+// The entry whose first word is at the place; none where the sheet ends before its third word.
+pub fn entry_at(s: &[u8], place: usize) -> Option<Entry>
     ensures { result ≡ entry_at s.now place }
 {
-    let n = s.len() / 4;
-    if n < entries::ENTRY_WORDS {
-        return Entry::End;
+    let last = (s.len() / 4).checked_sub(entries::ENTRY_WORDS)?;
+    if last < place {
+        return None;
     }
-    if n - entries::ENTRY_WORDS < place {
-        return Entry::End;
-    }
-    Entry::Of(
-        words::unsigned_word(s, place),
-        words::unsigned_word(s, place + 1),
-        words::unsigned_word(s, place + 2),
-    )
+    Some(Entry {
+        kind: words::unsigned_word(s, place),
+        start: words::unsigned_word(s, place + 1),
+        rows: words::unsigned_word(s, place + 2),
+    })
 }
 
 // A reader of the sheet, at the first entry.
-pub fn new<'a>(sheet: &'a [u8]) -> Reader<'a>
+pub fn new(sheet: &[u8]) -> Reader<'_>
     ensures { (result.sheet ≡ sheet.entry) × (result.place ≡ first_entry) }
 {
     Reader {
@@ -49,39 +47,36 @@ pub fn new<'a>(sheet: &'a [u8]) -> Reader<'a>
 }
 
 // The entry at the reader's place. The reader is a value: it stays where it is.
-pub fn next<'a>(r: Reader<'a>) -> Entry
+pub fn next(r: Reader<'_>) -> Option<Entry>
     ensures { result ≡ entry_at r.entry.sheet.now r.entry.place }
 {
     entry_at(r.sheet, r.place)
 }
 
 // The reader moved to another place of the same sheet.
-pub fn moved<'a>(r: Reader<'a>, place: usize) -> Reader<'a>
+pub fn moved(r: Reader<'_>, place: usize) -> Reader<'_>
     ensures { (result.sheet ≡ r.entry.sheet) × (result.place ≡ place) }
 {
-    Reader {
-        sheet: r.sheet,
-        place,
-    }
+    Reader { place, ..r }
 }
 
 // What a reader of the sheet reads at the place.
-fn read_at(sheet: &[u8], place: usize) -> Entry
+fn read_at(sheet: &[u8], place: usize) -> Option<Entry>
     ensures { result ≡ entry_at sheet.now place }
 {
     next(moved(new(sheet), place))
 }
 
-// Entry e of the contents, counted from 0: as the check reads it, or the end where the sheet or the contents have no entry e.
-pub fn read_entry(sheet: &[u8], e: usize) -> Entry
+// Entry e of the contents, counted from 0: as the check reads it, and none where the sheet or the contents have no entry e.
+pub fn read_entry(sheet: &[u8], e: usize) -> Option<Entry>
     ensures { result ≡ entry_numbered sheet.now e }
 {
     if sheet.len() < 4 {
-        return Entry::End; // no word 0
+        return None; // no word 0
     }
     let f = entries::form_of(sheet);
     if f.kinds <= e {
-        return Entry::End;
+        return None;
     }
     read_at(sheet, f.words * e + entries::FIRST_ENTRY)
 }

@@ -4,10 +4,9 @@
 ghost use Rattle.std.specs.Prelude.{◌≡◌};
 ghost use Rattle.row_line.specs.RowLine.{row_asked, number_by, sheet_by};
 
-// What the line asks: the minute, and new y0 (0.01 ft), H (0.000001), V (0.000001) and a (0.001). A line of no known form is not known, and has zeros.
+// What the line asks: the minute, and new y0 (0.01 ft), H (0.000001), V (0.000001) and a (0.001).
 #[derive(Clone, Copy)]
 pub struct NewRow {
-    pub known: bool,
     pub minute: i32,
     pub y0: i32,
     pub h: i32,
@@ -15,43 +14,33 @@ pub struct NewRow {
     pub a: i32,
 }
 
-// What the line asks.
-pub fn row_asked(line: &[u8]) -> NewRow
+// What the line asks; none where it is of no known form.
+#[tactic(auto, unfolding(crate::specs::RowLine::row_asked))]
+pub fn row_asked(line: &[u8]) -> Option<NewRow>
     ensures { result ≡ row_asked line.now }
 {
-    let minute = fields::field_at(line, 0);
-    let y0 = fields::field_at(line, minute.next);
-    let h = fields::field_at(line, y0.next);
-    let v = fields::field_at(line, h.next);
-    let a = fields::last_at(line, v.next);
-    if !(minute.found & y0.found & h.found & v.found & a.found) {
-        return NewRow {
-            known: false,
-            minute: 0,
-            y0: 0,
-            h: 0,
-            v: 0,
-            a: 0,
-        };
-    }
-    NewRow {
-        known: true,
+    let minute = fields::field_at(line, 0)?;
+    let y0 = fields::field_at(line, minute.next)?;
+    let h = fields::field_at(line, y0.next)?;
+    let v = fields::field_at(line, h.next)?;
+    let a = fields::last_at(line, v.next)?;
+    Some(NewRow {
         minute: minute.value,
         y0: y0.value,
         h: h.value,
         v: v.value,
         a: a.value,
-    }
+    })
 }
 
 // The correction that the line asks for: 18, or what `correct::correct` answers and writes.
+#[tactic(auto, unfolding(crate::specs::RowLine::number_of_row, crate::specs::RowLine::sheet_of_row))]
 pub fn correct_by(sheet: &mut [u8], line: &[u8]) -> u32
     ensures answer { result ≡ number_by sheet.old line.now }
     ensures memory { sheet.new ≡ sheet_by sheet.old line.now }
 {
-    let r = row_asked(line);
-    if !r.known {
+    let Some(r) = row_asked(line) else {
         return 18;
-    }
+    };
     correct::correct(sheet, r.minute, r.y0, r.h, r.v, r.a)
 }

@@ -12,7 +12,7 @@
 #![tactic(auto)]
 
 use contents::Verdict;
-use point_line::{CONVERGENCE, FORWARD, INVERSE, Line};
+use point_line::{Form, Line};
 use std::io::Print;
 use touched::Touch;
 
@@ -109,32 +109,39 @@ fn differing(before: &[u8], after: &[u8]) -> usize {
 // ---- the list's lines
 
 // Prints the sheet's answer to what a line asks.
-fn answer(rt: &HostRuntime, sheet: &[u8], l: Line) {
-    let form = l.form;
-    if form == FORWARD {
-        let r = convert::geographic_to_plane(sheet, l.first, l.second);
-        print_answer(rt, r.number, r.x, r.y, r.half);
-    } else if form == INVERSE {
-        let r = convert::plane_to_geographic(sheet, l.first, l.second);
-        print_answer(rt, r.number, r.latitude, r.longitude, r.half);
-    } else if form == CONVERGENCE {
-        let r = convert::convergence_and_scale(sheet, l.first, l.second);
-        print_answer(rt, r.number, r.convergence, r.scale, r.half);
-    } else {
+fn answer(rt: &HostRuntime, sheet: &[u8], asked: Option<Line>) {
+    let Some(l) = asked else {
         print(rt, b" 18");
+        return;
+    };
+    match l.form {
+        Form::Forward => {
+            let r = convert::geographic_to_plane(sheet, l.first, l.second);
+            print_answer(rt, r.number, r.x, r.y, r.half);
+        }
+        Form::Inverse => {
+            let r = convert::plane_to_geographic(sheet, l.first, l.second);
+            print_answer(rt, r.number, r.latitude, r.longitude, r.half);
+        }
+        Form::Convergence => {
+            let r = convert::convergence_and_scale(sheet, l.first, l.second);
+            print_answer(rt, r.number, r.convergence, r.scale, r.half);
+        }
     }
 }
 
 // Prints whether a correction of the minute's row may change the answer. Convergence and scale take nothing from a latitude row.
-fn touch(rt: &HostRuntime, sheet: &[u8], minute: i32, l: Line) {
-    let form = l.form;
-    if form == FORWARD {
-        print_touch(
+fn touch(rt: &HostRuntime, sheet: &[u8], minute: i32, asked: Option<Line>) {
+    let Some(l) = asked else {
+        return;
+    };
+    match l.form {
+        Form::Forward => print_touch(
             rt,
             touched::geographic_touched(sheet, minute, l.first, l.second),
-        );
-    } else if form == INVERSE {
-        print_touch(rt, touched::plane_touched(sheet, minute, l.first, l.second));
+        ),
+        Form::Inverse => print_touch(rt, touched::plane_touched(sheet, minute, l.first, l.second)),
+        Form::Convergence => {}
     }
 }
 
@@ -203,7 +210,7 @@ fn correct(rt: &HostRuntime, line: &[u8], list: &[u8], sheet: &mut [u8]) {
         before,
         sheet,
         true,
-        row_line::row_asked(row).minute,
+        row_line::row_asked(row).map_or(0, |r| r.minute),
     );
 }
 
@@ -221,23 +228,21 @@ fn spoil(line: &[u8], sheet: &mut [u8]) {
     if decimal::byte_at(line, 0) != b'w' {
         return;
     }
-    let word = fields::field_at(line, 5);
-    let value = fields::last_at(line, word.next);
+    let Some(word) = fields::field_at(line, 5) else {
+        return;
+    };
+    let Some(value) = fields::last_at(line, word.next) else {
+        return;
+    };
     let w = size(word.value) as usize;
-    if word.found & value.found {
-        if w < sheet.len() / 4 {
-            words::put_word(sheet, w, value.value);
-        }
+    if w < sheet.len() / 4 {
+        words::put_word(sheet, w, value.value);
     }
 }
 
 // How many of the sheet's bytes the line asks for: the number that it begins with, else all.
 fn length_of(line: &[u8], all: usize) -> usize {
-    let n = decimal::number_at(line, 0);
-    if n.length == 0 {
-        return all;
-    }
-    size(n.value) as usize
+    decimal::number_at(line, 0).map_or(all, |n| size(n.value) as usize)
 }
 
 // Loads the named sheet, changes it as the line says, prints the check's answer to it, and answers its length.

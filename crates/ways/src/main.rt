@@ -5,7 +5,6 @@
 
 ghost use Rattle.std.specs.Prelude.{◌≡◌, ◌≤◌, length};
 
-use counts::Whole;
 use door::{Answer, Point};
 use reader::Entry;
 use std::io::Print;
@@ -65,13 +64,13 @@ fn put_signed(rt: &HostRuntime, z: i32) {
 
 // A float; a NaN has no bits here.
 fn put_float(rt: &HostRuntime, x: f64) {
-    if x != x {
+    if x.is_nan() {
         put(rt, b' ');
         put(rt, b'?');
         return;
     }
-    let bits: u64 = f64::to_bits(x);
-    if let Whole::Count(n) = counts::whole_of(x) {
+    let bits = x.to_bits();
+    if let Some(n) = counts::whole_of(x) {
         put_signed(rt, n);
     } else {
         put(rt, b' ');
@@ -93,15 +92,15 @@ fn put_words(rt: &HostRuntime, words: &[i32]) {
 // ---- the reader of contents
 
 // Kind, start and rows; a point for the end.
-fn put_entry(rt: &HostRuntime, entry: Entry) {
+fn put_entry(rt: &HostRuntime, entry: Option<Entry>) {
     put(rt, b':');
     match entry {
-        Entry::Of(kind, start, rows) => {
-            put_size(rt, kind as u64);
-            put_size(rt, start as u64);
-            put_size(rt, rows as u64);
+        Some(e) => {
+            put_size(rt, e.kind as u64);
+            put_size(rt, e.start as u64);
+            put_size(rt, e.rows as u64);
         }
-        Entry::End => put(rt, b'.'),
+        None => put(rt, b'.'),
     }
     put(rt, b'\n');
 }

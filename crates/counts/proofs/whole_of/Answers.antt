@@ -1,8 +1,8 @@
 -- `counts::whole_of` meets its contract: each way out is a law of `Pattern` at what the code's tests say of the bits; then what each step asks. Assumes nothing.
-use mathlib.Core.Path.{sym, subst}
+use mathlib.Core.Path.{sym, ◌∙◌, subst}
 use lib.Dec.{T}
 use lib.Ieee.{Float, binary64, fits}
-use Rattle.counts.proofs.Pattern.{is_nan_lem, no_nan, is_zero, is_small, is_large, unit_pos, size_lt, is_fraction, is_plus, minus_fits, is_minus}
+use Rattle.counts.proofs.Pattern.{is_nan_lem, is_zero, is_small, is_large, unit_pos, size_lt, is_fraction, is_plus, minus_fits, is_minus}
 use Rattle.counts.proofs.whole_of.Goals as goal
 use Rattle.counts.proofs.whole_of.Goals.{Else-exponent-gt-OF_MOST, Start}
 
@@ -13,8 +13,8 @@ x c = c.args.x
 held : (c : Start) → T (fits binary64 (x c))
 held c = subst T (sym c.well_formed.0.1) tt
 
-pub returns-then-x : goal.returns-then-x
-returns-then-x c = is_nan_lem (x (goal.at.returns-then-x c).Start) c.if-x.true
+pub returns-then-is_nan : goal.returns-then-is_nan
+returns-then-is_nan c = is_nan_lem c.args.x (sym c.is_nan.ensures.value ∙ c.if-is_nan.true)
 
 pub returns-then-bits-eq0 : goal.returns-then-bits-eq0
 returns-then-bits-eq0 c =
@@ -45,9 +45,6 @@ pub returns : goal.returns
 returns c =
     let s = (goal.at.returns c).Start in
     is_minus (x s) (held (goal.at.returns c).Start) c.if-exponent-lt-OF_ONE.false c.if-exponent-gt-OF_MOST.false c.if-digits-unit-ne0.false c.if-bits-lt-SIGN.false
-
-pub float_to_bits-bits : goal.float_to_bits-bits
-float_to_bits-bits c = no_nan (x (goal.at.float_to_bits-bits c).Start) c.if-x.false
 
 pub nonzero_rem-digits-2 : goal.nonzero_rem-digits-2
 nonzero_rem-digits-2 c =

@@ -15,13 +15,10 @@ returns-then-v-limit-2 c =
     let e : 19 ≡ l.k = omega (arith, l.invariant.most) in
     (e ∙ placed _ _ _ l.invariant c.if-v-limit-2.true, lit≤ tt)
 
-pub returns : goal.returns
-returns c = (last-place _ _ _ c.loop-k.invariant (omega arith) c.if-v-limit-2.false, lit≤ tt)
+pub returns-else-v-limit-2 : goal.returns-else-v-limit-2
+returns-else-v-limit-2 c = (last-place _ _ _ c.loop-k.invariant (omega arith) c.if-v-limit-2.false, lit≤ tt)
 
 -- ---- what its loop keeps
-pub loop-k-init : goal.loop-k-init
-loop-k-init c = c.requires
-
 pub loop-k-preserved : goal.loop-k-preserved
 loop-k-preserved c = next_place _ _ _ c.loop-k.invariant (omega arith) c.if-v-limit.false
 

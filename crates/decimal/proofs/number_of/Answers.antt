@@ -1,42 +1,25 @@
 -- `decimal::number_of` meets its contract. Assumes nothing.
-use borrow.Author.Rules.{rules}
-use Prim.Native.Nat.{◌≤◌}
+use mathlib.Core.Path.{◌≡◌, ◌∙◌}
 use native.Mathlib.Omega.{arith}
-use lib.IntN.{pos}
-use lib.Dec.{lit≤}
-use mir.Syntax.{w32, w64}
-use mir.ValLaws.{to_z_pos}
-use Rattle.rounding.proofs.Holds.{Holds, held_size, minus_fits, minus, cast_fits_of, cast_of}
-use Rattle.decimal.proofs.NumbersRead.{no_digits, too_large, plus_number, minus_number, minus_held}
+use mir.Syntax.{w64}
+use mir.Val.{to_z}
+use Rattle.decimal.specs.Reading.{signed_value}
+use Rattle.decimal.proofs.NumbersRead.{plus_value, minus_value, byte-most, no_number, a_number}
 use Rattle.decimal.proofs.number_of.Goals as goal
-use Rattle.decimal.proofs.number_of.Goals.{Else-minus-eq0}
+use Rattle.decimal.proofs.number_of.Goals.{After-try_from, then-minus, else-minus}
 
-small : (c : Else-minus-eq0) → c.args.value ≤ 2_147_483_648
-small c = omega arith
+signed_is : (c : After-try_from) → to_z w64 c.if-minus.signed-bits ≡ signed_value c.args.minus c.args.d.value
+signed_is c = elim c.if-minus.branch [
+  | then-minus w ↦ rw w.if-minus.true (w.signed-is ∙ minus_value c.args.d.value c.requires.1)
+  | else-minus w ↦ rw w.if-minus.false (w.signed-is ∙ plus_value c.args.d.value c.requires.1)
+]
 
-size : (c : Else-minus-eq0) → Holds w64 c.args.value (pos c.args.value) 2_147_483_648
-size c = held_size w64 (small c) tt
-
--- ---- what it answers
-pub returns-then-count-eq0 : goal.returns-then-count-eq0
-returns-then-count-eq0 c = (no_digits _ _ _ c.if-count-eq0.true, lit≤ tt)
-
-pub returns-then-minus-value : goal.returns-then-minus-value
-returns-then-minus-value c = (too_large _ _ _ c.requires.0 (omega arith), lit≤ tt)
-
-pub returns-then-minus-eq0 : goal.returns-then-minus-eq0
-returns-then-minus-eq0 c = (rw (to_z_pos w32 c.args.value (omega arith)) (plus_number _ _ _ c.if-minus-eq0.true c.if-count-eq0.false (omega arith)), omega arith)
+pub returns-in_err-value : goal.returns-in_err-value
+returns-in_err-value c =
+    let s = (goal.at.returns-in_err-value c).After-try_from in
+    rw c.from_residual.ensures (no_number c.args.minus c.args.d (to_z w64 c.if-minus.signed-bits) (signed_is s) c.try_from.result c.try_from.ensures c.in_err-value.ensures.value, tt)
 
 pub returns : goal.returns
 returns c =
-    (rw (cast_of (minus (size c) tt) (minus_held _ (small c))) (minus_number _ _ _ c.if-minus-eq0.false c.requires.0 c.if-count-eq0.false (omega arith)), omega arith)
-
--- ---- what its operations ask
-pub overflow_add-minus : goal.overflow_add-minus
-overflow_add-minus c = search rules
-
-pub overflow_sub-result : goal.overflow_sub-result
-overflow_sub-result c = minus_fits (size c) tt
-
-pub overflow_cast-result-3 : goal.overflow_cast-result-3
-overflow_cast-result-3 c = cast_fits_of (minus (size c) tt) (minus_held _ (small c))
+    let s = (goal.at.returns c).After-try_from in
+    (a_number c.args.minus c.args.d (to_z w64 c.if-minus.signed-bits) (signed_is s) c.try_from.result c.try_from.ensures _ _ c.in_ok-value.ensures.value c.from.ensures, omega (arith, c.from.ensures, byte-most c.args.minus))

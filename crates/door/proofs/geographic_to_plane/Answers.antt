@@ -15,11 +15,11 @@ returns-in_default c = before _ _ (sym c.in_default.ensures)
 pub returns : goal.returns
 returns c =
     let r = c.geographic_to_plane-r.result in
-    let a = c.in-Of.latitude in
-    let b = c.in-Of.longitude in
+    let a = c.in-Some.latitude in
+    let b = c.in-Some.longitude in
     let a_is : to_z w32 (of_z w32 a) ≡ a = search rules in
     let b-is : to_z w32 (of_z w32 b) ≡ b = search rules in
     let one : to_z w32 (of_z w32 r.x) ≡ r.x = search rules in
     let two : to_z w32 (of_z w32 r.y) ≡ r.y = search rules in
     let told = c.answer_of.ensures ∙ both-same (λ a b. answer_of r.number a b r.half) one two in
-    after (geographic_to_plane _) plane_answer _ _ (sym c.in-Of.ensures) a_is b-is c.geographic_to_plane-r.ensures told
+    after (geographic_to_plane _) plane_answer _ _ (sym c.in-Some.ensures) a_is b-is c.geographic_to_plane-r.ensures told

@@ -15,11 +15,11 @@ returns-in_default c = before _ _ (sym c.in_default.ensures)
 pub returns : goal.returns
 returns c =
     let r = c.plane_to_geographic-r.result in
-    let a = c.in-Of.x in
-    let b = c.in-Of.y in
+    let a = c.in-Some.x in
+    let b = c.in-Some.y in
     let a_is : to_z w32 (of_z w32 a) ≡ a = search rules in
     let b-is : to_z w32 (of_z w32 b) ≡ b = search rules in
     let one : to_z w32 (of_z w32 r.latitude) ≡ r.latitude = search rules in
     let two : to_z w32 (of_z w32 r.longitude) ≡ r.longitude = search rules in
     let told = c.answer_of.ensures ∙ both-same (λ a b. answer_of r.number a b r.half) one two in
-    after (plane_to_geographic _) geographic_answer _ _ (sym c.in-Of.ensures) a_is b-is c.plane_to_geographic-r.ensures told
+    after (plane_to_geographic _) geographic_answer _ _ (sym c.in-Some.ensures) a_is b-is c.plane_to_geographic-r.ensures told

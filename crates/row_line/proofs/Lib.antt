@@ -1,2 +1,0 @@
--- Laws of the correction's line.
-pub mod Fields
