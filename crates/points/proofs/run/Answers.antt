@@ -1,7 +1,7 @@
 -- `points::run` meets its contract. Assumes nothing.
-use mathlib.Core.Path.{sym, ap, ◌∙◌}
-use Rattle.convert.proofs.Checked.{sheet_long}
+use borrow.Author.Rules.{rules}
+use Rattle.sheet_check.proofs.Known.{sheet_long}
 use Rattle.points.proofs.run.Goals as goal
 
 pub places_of-requires : goal.places_of-requires
-places_of-requires c = sheet_long _ (sym (ap (λ v. v.number) c.check-v.ensures) ∙ c.if-number-ne0.false)
+places_of-requires c = search (sheet_long, rules)

@@ -1,5 +1,5 @@
 -- `redo::compare` meets its contract. Assumes nothing.
-use Rattle.convert.proofs.Checked.{sheet_long}
+use Rattle.sheet_check.proofs.Known.{sheet_long}
 use borrow.Author.Rules.{rules}
 use Rattle.redo.proofs.compare.Goals as goal
 
