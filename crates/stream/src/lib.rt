@@ -43,7 +43,7 @@ fn first(text: &[u8], byte: u8) -> Option<usize>
 }
 
 // Where the first byte from `from` on stands that is `byte`; `to`, where none before it is.
-pub fn find(text: &[u8], from: usize, to: usize, byte: u8) -> usize
+fn find(text: &[u8], from: usize, to: usize, byte: u8) -> usize
     requires { (from ≤ to) × (to ≤ length text.now) }
     ensures { (result ≡ from + index_of byte (slice from to text.now)) × (result ≤ to) }
 {
