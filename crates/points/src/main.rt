@@ -2,7 +2,7 @@
 // come in is answered before more is read.
 #![tactic(auto)]
 
-ghost use Rattle.std.specs.Prelude.{◌≡◌, ◌*◌, ◌≤◌, ◌<◌, length};
+ghost use Rattle.std.specs.Prelude.{◌≡◌, ◌*◌, ◌≤◌, ◌<◌, length, IfSome};
 ghost use Rattle.sheet_check.specs.Check.{KnownToPass};
 ghost use Rattle.lines.specs.Lines.{line_room};
 ghost use Rattle.stream.specs.Stream.{most_kept};
@@ -10,7 +10,6 @@ ghost use Rattle.points.specs.Turn.{Turned};
 
 use blocks::Done;
 use entries::Places;
-use files::More;
 
 // Room for the input, and for an answer to each of its bytes.
 const INPUT: usize = 16_640;
@@ -24,21 +23,27 @@ struct State {
     ended: bool,
 }
 
-// Takes what was read behind the first `kept` bytes, and answers the lines that have ended; at the input's end, what is left. A line that a failed read cut is not answered.
-fn turn(sheet: &[u8], p: Places, input: &mut [u8], kept: usize, more: More, out: &mut [u8]) -> State
-    requires { KnownToPass sheet.now p × (kept ≤ most_kept) × (most_kept < length input.old) × (kept ≤ more.to) × (more.to ≤ length input.old) × (line_room * length input.old ≤ length out.old) }
+// Takes what was read behind the first `kept` bytes, to byte `more`, and answers the lines that have ended; at the input's end, what is left. A line that a failed read cut is not answered.
+fn turn(
+    sheet: &[u8],
+    p: Places,
+    input: &mut [u8],
+    kept: usize,
+    more: Option<usize>,
+    out: &mut [u8],
+) -> State
+    requires { KnownToPass sheet.now p × (kept ≤ most_kept) × (most_kept < length input.old) × IfSome more (λ to. (kept ≤ to) × (to ≤ length input.old)) × (line_room * length input.old ≤ length out.old) }
     ensures { Turned sheet.now input.old input.new kept more out.old out.new result }
 {
-    let to = more.to;
-    if kept < to {
-        let done = blocks::answer_block(sheet, p, input, 0, to, out);
-        return State { done, ended: false };
-    }
-    if more.failed {
+    let Some(to) = more else {
         return State {
             done: Done { kept: 0, at: 0 },
             ended: true,
         };
+    };
+    if kept < to {
+        let done = blocks::answer_block(sheet, p, input, 0, to, out);
+        return State { done, ended: false };
     }
     let at = blocks::answer_last(sheet, p, input, kept, out);
     State {
@@ -102,10 +107,9 @@ fn main(rt: HostRuntime) {
     let mut sheet = files::sheet_room();
     let mut input = [0u8; INPUT];
     let mut out = output();
-    let name = files::read_line(&rt, &mut input, 0, 0);
-    if name.failed {
+    let Some(name) = files::read_line(&rt, &mut input, 0, 0) else {
         return;
-    }
+    };
     let from = name.from;
     let end = name.end;
     let size = files::load(&rt, &input[from..end], &mut sheet);

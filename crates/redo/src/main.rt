@@ -3,14 +3,13 @@
 // touch. Standard error: how many lines were of no known form. What has come in is compared before more is read.
 #![tactic(auto)]
 
-ghost use Rattle.std.specs.Prelude.{◌≡◌, ◌*◌, ◌≤◌, ◌<◌, length};
+ghost use Rattle.std.specs.Prelude.{◌≡◌, ◌*◌, ◌≤◌, ◌<◌, length, IfSome};
 ghost use Rattle.sheet_check.specs.Check.{check_of, KnownToPass};
 ghost use Rattle.compared.specs.Compared.{change_room};
 ghost use Rattle.stream.specs.Stream.{most_kept};
 ghost use Rattle.redo.specs.Turn.{Turned};
 
 use compared::BothPlaces;
-use files::More;
 use redone::{Done, Held, Tally};
 
 // Room for the input, and for a changed line to each of its bytes.
@@ -27,7 +26,7 @@ struct State {
 
 // ---- the loop
 
-// Takes what was read behind the bytes that are kept, and compares the lines that have ended; at the input's end, what is left. A line that a failed read cut is not compared, and no counts
+// Takes what was read behind the bytes that are kept, to byte `more`, and compares the lines that have ended; at the input's end, what is left. A line that a failed read cut is not compared, and no counts
 // are written then: they would count only a part of the input.
 fn turn(
     old: &[u8],
@@ -35,21 +34,15 @@ fn turn(
     places: BothPlaces,
     input: &mut [u8],
     prior: Done,
-    more: More,
+    more: Option<usize>,
     out: &mut [u8],
 ) -> State
-    requires { KnownToPass old.now places.old × KnownToPass new.now places.new × (prior.kept ≤ most_kept) × (most_kept < length input.old) × (prior.kept ≤ more.to) × (more.to ≤ length input.old) × (change_room * length input.old ≤ length out.old) }
+    requires { KnownToPass old.now places.old × KnownToPass new.now places.new × (prior.kept ≤ most_kept) × (most_kept < length input.old) × IfSome more (λ to. (prior.kept ≤ to) × (to ≤ length input.old)) × (change_room * length input.old ≤ length out.old) }
     ensures { Turned old.now new.now input.old input.new prior more out.old out.new result }
 {
     let kept = prior.kept;
-    let to = more.to;
     let tally = prior.tally;
-    if kept < to {
-        let h = Held { from: 0, to, tally };
-        let done = redone::compare_block(old, new, places, input, h, out);
-        return State { done, ended: false };
-    }
-    if more.failed {
+    let Some(to) = more else {
         return State {
             done: Done {
                 kept: 0,
@@ -58,6 +51,11 @@ fn turn(
             },
             ended: true,
         };
+    };
+    if kept < to {
+        let h = Held { from: 0, to, tally };
+        let done = redone::compare_block(old, new, places, input, h, out);
+        return State { done, ended: false };
     }
     let done = redone::compare_last(old, new, places, input, kept, tally, out);
     State { done, ended: true }
@@ -99,20 +97,12 @@ fn say_stray(rt: &HostRuntime, a: Tally) {
     }
     let mut out = [0u8; 64];
     files::say(rt, b"lines of no known form: ");
-    let n = decimal::put_size(&mut out, 0, less(a.lines, a.points));
+    let n = decimal::put_size(&mut out, 0, a.lines.saturating_sub(a.points));
     files::say(rt, &out[0..n]);
     files::say(rt, b"; the first is line ");
     let m = decimal::put_size(&mut out, 0, a.stray);
     files::say(rt, &out[0..m]);
     files::say(rt, b"\n");
-}
-
-// a less b, 0 where b is more.
-fn less(a: u64, b: u64) -> u64 {
-    if a < b {
-        return 0;
-    }
-    a - b
 }
 
 // ---- the sheets
@@ -186,17 +176,15 @@ fn main(rt: HostRuntime) {
     let mut new = files::sheet_room();
     let mut input = [0u8; INPUT];
     let mut out = output();
-    let first = files::read_line(&rt, &mut input, 0, 0);
-    if first.failed {
+    let Some(first) = files::read_line(&rt, &mut input, 0, 0) else {
         return;
-    }
+    };
     let a = first.from;
     let b = first.end;
     let m = files::load(&rt, &input[a..b], &mut old);
-    let second = files::read_line(&rt, &mut input, first.next, first.to);
-    if second.failed {
+    let Some(second) = files::read_line(&rt, &mut input, first.next, first.to) else {
         return;
-    }
+    };
     let c = second.from;
     let d = second.end;
     let n = files::load(&rt, &input[c..d], &mut new);
