@@ -130,8 +130,8 @@ fn fill_in(rt: &HostRuntime, temporary: &mut [u8]) -> Result<()>
     let mut drawn = [0u8; 6];
     rt.fill_bytes(&mut drawn)?;
     let start = temporary.len() - 6;
-    for i in 0..6 {
-        temporary[start + i] = LETTERS[(drawn[i] % 62) as usize];
+    for (to, b) in temporary[start..].iter_mut().zip(drawn) {
+        *to = LETTERS[(b % 62) as usize];
     }
     Ok(())
 }
