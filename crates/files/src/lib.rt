@@ -38,8 +38,7 @@ pub fn tell(rt: &HostRuntime, text: &[u8]) -> bool {
 
 // Whether standard output is open to be written to.
 pub fn is_open(rt: &HostRuntime) -> bool {
-    let none = [0u8; 1];
-    match Print::write_some(rt, &none[0..0]) {
+    match Print::write_some(rt, b"") {
         Ok(_) => true,
         Err(e) => {
             explain(rt, b"cannot write standard output", e);
@@ -69,7 +68,7 @@ fn put_reason(error: Error, memory: &mut [u8; 256]) -> usize
 {
     let mut rest: &mut [u8] = memory;
     let _ = write!(rest, "{error}");
-    let n = 256 - stream::least(256, rest.len());
+    let n = 256usize.saturating_sub(rest.len());
     if error.raw_os_error().is_none() {
         return n;
     }
@@ -103,11 +102,8 @@ fn put_shown(name: &[u8], memory: &mut [u8])
     requires { length name.now ≤ length memory.old }
     ensures { memory.new ≡ map shown_byte name.now ++ drop (length name.now) memory.old }
 {
-    let mut i = 0;
-    while i < name.len() {
-        let b = shown(name[i]);
-        memory[i] = b;
-        i += 1;
+    for (i, b) in name.iter().enumerate() {
+        memory[i] = shown(*b);
     }
 }
 
@@ -144,7 +140,7 @@ fn cannot(rt: &HostRuntime, what: &[u8], why: &[u8]) {
 pub fn is_name(rt: &HostRuntime, what: &[u8], name: &[u8]) -> bool
     ensures { result ≡ true → length name.now < 256 }
 {
-    if name.len() == 0 {
+    if name.is_empty() {
         cannot(rt, what, b": its name is empty\n");
         return false;
     }
@@ -152,7 +148,7 @@ pub fn is_name(rt: &HostRuntime, what: &[u8], name: &[u8]) -> bool
         cannot(rt, what, b": its name has more than 255 bytes\n");
         return false;
     }
-    if stream::find(name, 0, name.len(), 0) < name.len() {
+    if name.contains(&0) {
         cannot(rt, what, b": its name has a zero byte\n");
         return false;
     }
@@ -171,11 +167,7 @@ pub fn path_of(name: &[u8]) -> Result<&str>
 
 // Whether the name's last byte is a carriage return, which no terminal shows.
 pub fn ends_in_return(name: &[u8]) -> bool {
-    let n = name.len();
-    if n == 0 {
-        return false;
-    }
-    name[n - 1] == CARRIAGE_RETURN
+    name.ends_with(&[CARRIAGE_RETURN])
 }
 
 // ---- reading
@@ -204,19 +196,19 @@ fn read_part<R: Read>(reader: &mut R, buf: &mut [u8], from: usize) -> Result<usi
     Err(Error::from(ErrorKind::Interrupted))
 }
 
-// Reads until the buffer is full, the input ends or a read fails; how many bytes came.
-pub fn read_full<R: Read>(reader: &mut R, buf: &mut [u8]) -> usize
-    ensures { result ≤ length buf.new }
+// Reads until the buffer is full or the input ends; how many bytes came.
+pub fn read_full<R: Read>(reader: &mut R, buf: &mut [u8]) -> Result<usize>
+    ensures { IfOk result (λ n. n ≤ length buf.new) }
 {
     let mut done = 0;
     while done < buf.len() {
-        let count = read_once(reader, buf, done).unwrap_or(0);
+        let count = read_part(reader, buf, done)?;
         if count == 0 {
-            return done;
+            break;
         }
         done += count;
     }
-    done
+    Ok(done)
 }
 
 // ---- a file
@@ -226,27 +218,12 @@ pub fn open(rt: &HostRuntime, name: &[u8]) -> Result<File> {
     File::open(rt, path_of(name)?)
 }
 
-// The file's bytes in the buffer, as far as it reaches.
-fn read_sheet(file: &mut File, sheet: &mut [u8]) -> Result<usize>
-    ensures { IfOk result (λ n. n ≤ length sheet.new) }
-{
-    let mut done = 0;
-    while done < sheet.len() {
-        let count = read_part(file, sheet, done)?;
-        if count == 0 {
-            return Ok(done);
-        }
-        done += count;
-    }
-    Ok(done)
-}
-
-// The bytes of the file of a name that a file may have.
+// The bytes of the file of a name that a file may have, as far as the buffer reaches.
 fn read_named(rt: &HostRuntime, name: &[u8], sheet: &mut [u8]) -> Result<usize>
     ensures { IfOk result (λ n. n ≤ length sheet.new) }
 {
     let mut file = open(rt, name)?;
-    read_sheet(&mut file, sheet)
+    read_full(&mut file, sheet)
 }
 
 // Says which file could not be read, and why.
@@ -277,8 +254,8 @@ pub fn load(rt: &HostRuntime, name: &[u8], sheet: &mut [u8]) -> usize
 
 // ---- standard input
 
-// Reads more of standard input behind the buffer's first n bytes, which stay as they were: how many bytes it holds then, n still where the input has ended. None where the read failed, and standard error
-// says why. There has to be room: a read of none would pass for the input's end.
+// Reads more of standard input behind the buffer's first n bytes, which stay as they were; how many bytes the buffer holds then. It holds n still where the input has ended. None: the read failed, and
+// standard error says why. There has to be room: a read of none would pass for the input's end.
 pub fn read_on(rt: &HostRuntime, input: &mut [u8], n: usize) -> Option<usize>
     requires { n < length input.old }
     ensures within { IfSome result (λ to. (n ≤ to) × (to ≤ length input.new)) }
@@ -293,54 +270,44 @@ pub fn read_on(rt: &HostRuntime, input: &mut [u8], n: usize) -> Option<usize>
     }
 }
 
-// A line of standard input: the buffer's bytes from `from` to `end`; those from `next` to `to` stand behind it. Where a read failed the line did not come whole.
+// A line of standard input: the buffer's bytes from `from` to `end`; those from `next` to `to` stand behind it.
 #[derive(Clone, Copy)]
 pub struct Line {
     pub from: usize,
     pub end: usize,
     pub next: usize,
     pub to: usize,
-    pub failed: bool,
 }
 
 // The next line of the buffer's bytes from `from` to `to` and what is read behind them, or at the input's end what is left; no further than 256 bytes of it, which is more than a name or a line of a
-// known form has.
-pub fn read_line(rt: &HostRuntime, input: &mut [u8], from: usize, to: usize) -> Line
+// known form has. None: a read failed, so the line did not come whole, and standard error says why.
+pub fn read_line(rt: &HostRuntime, input: &mut [u8], from: usize, to: usize) -> Option<Line>
     requires { (from ≤ to) × (to ≤ length input.old) × (256 < length input.old) }
-    ensures { (result.from ≤ result.end) × (result.end ≤ result.next) × (result.next ≤ result.to) × (result.to ≤ length input.new) }
+    ensures { IfSome result (λ line. (line.from ≤ line.end) × (line.end ≤ line.next) × (line.next ≤ line.to) × (line.to ≤ length input.new)) }
 {
     let mut start = from;
     let mut n = to;
     for _ in 0..u64::MAX {
         let end = stream::line_end(input, start, n);
         if end < n {
-            return Line {
+            return Some(Line {
                 from: start,
                 end,
                 next: end + 1,
                 to: n,
-                failed: false,
-            };
+            });
         }
         let kept = stream::keep(input, start, n);
-        let more = read_on(rt, input, kept);
-        n = more.unwrap_or(kept);
+        n = read_on(rt, input, kept)?;
         start = 0;
         if n == kept {
-            return Line {
+            return Some(Line {
                 from: 0,
                 end: n,
                 next: n,
                 to: n,
-                failed: more.is_none(),
-            };
+            });
         }
     }
-    Line {
-        from: n,
-        end: n,
-        next: n,
-        to: n,
-        failed: true,
-    }
+    None
 }

@@ -26,7 +26,7 @@ pub fn has_row(b: &[u8], n: usize, minute: i32) -> bool
         return false;
     }
     let own = words::word(b, entries::LATITUDE_WIDTH * (place as usize));
-    refusals::same_as(own, minute)
+    own == minute
 }
 
 // The row with the minute, which the body has.

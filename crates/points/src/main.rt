@@ -45,10 +45,9 @@ fn main(rt: HostRuntime) {
     let mut sheet = files::sheet_room();
     let mut input = [0u8; INPUT];
     let mut out = output();
-    let name = files::read_line(&rt, &mut input, 0, 0);
-    if name.failed {
+    let Some(name) = files::read_line(&rt, &mut input, 0, 0) else {
         return;
-    }
+    };
     let from = name.from;
     let end = name.end;
     let size = files::load(&rt, &input[from..end], &mut sheet);

@@ -113,17 +113,15 @@ fn main(rt: HostRuntime) {
     let mut new = files::sheet_room();
     let mut input = [0u8; INPUT];
     let mut out = output();
-    let first = files::read_line(&rt, &mut input, 0, 0);
-    if first.failed {
+    let Some(first) = files::read_line(&rt, &mut input, 0, 0) else {
         return;
-    }
+    };
     let a = first.from;
     let b = first.end;
     let m = files::load(&rt, &input[a..b], &mut old);
-    let second = files::read_line(&rt, &mut input, first.next, first.to);
-    if second.failed {
+    let Some(second) = files::read_line(&rt, &mut input, first.next, first.to) else {
         return;
-    }
+    };
     let c = second.from;
     let d = second.end;
     let n = files::load(&rt, &input[c..d], &mut new);

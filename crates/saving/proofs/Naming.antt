@@ -1,42 +1,39 @@
 -- The laws of the names: the search for the last slash, and what is put together. Assumes nothing.
-use mathlib.Core.Path.{◌≡◌, sym, ap, ◌∙◌}
-use mathlib.Core.Bool.{Bool, true, false, cond}
-use mathlib.Core.List.{List, ◌++◌, append_assoc}
-use Prim.Native.Nat.{ℕ, suc, ◌+◌, ◌-◌, ◌≤◌, ◌<◌}
+use mathlib.Core.Path.{◌≡◌, refl, sym, ap, ◌∙◌}
+use mathlib.Core.Bool.{cond}
+use mathlib.Core.Logic.{◌≢◌}
+use mathlib.Core.List.{List, [], ◌∷◌, ◌++◌, append_assoc}
+use Prim.Native.Nat.{ℕ, zero, suc, ◌+◌, ◌-◌, ◌≤◌, ◌<◌}
 use native.Mathlib.Omega.{arith}
-use native.Mathlib.Numerals.{add-one}
 use borrow.Author.Tests.{eq-eqb, ne_eqb}
 use lib.Dec.{eqb}
 use borrow.Rule.Slice.PartMut.{post_of}
-use lib.ListN.{length, take, drop, get_or, drop_of_length-le, length-append}
-use lib.Seq.{drop-cons, drop-drop, length-take-le, take_at, drop_at}
+use lib.ListN.{length, take, drop, get_or, length-append}
+use lib.Seq.{drop-drop, length-take-le, take_at, drop_at}
 use Rattle.saving.specs.Names.{slash, behind_last, folder_end, unfinished, temporary_of}
 
 -- ---- the place behind the last slash
-pub behind_it : (b i place : ℕ) → b ≡ slash → i + 1 ≡ cond (eqb b slash) (i + 1) place
-behind_it b i place e = rw (eq-eqb b slash e)
-
-pub no_slash : (b i place : ℕ) → (b ≡ slash → ⊥) → place ≡ cond (eqb b slash) (i + 1) place
-no_slash b i place e = rw (ne_eqb b slash e)
-
--- it is no further than the byte
-pub no_further : (b i place next : ℕ) → place ≤ i → next ≡ cond (eqb b slash) (i + 1) place → next ≤ i + 1
-no_further b i place next h e = go (eqb b slash) (rw e)
-  where
-    go : (t : Bool) → next ≡ cond t (i + 1) place → next ≤ i + 1
-    go true q = omega (arith, q)
-    go false q = omega (arith, q, h)
-
--- the rest of the search finds the same
-pub looked : (name : List ℕ) (i end b next : ℕ) → i < length name → folder_end name ≡ behind_last i end (drop i name) → b ≡ get_or name i 0 → next ≡ cond (eqb b slash) (i + 1) end → folder_end name ≡ behind_last (i + 1) next (drop (i + 1) name)
+none_behind : (i place : ℕ) (text : List ℕ) → ((k : ℕ) → k < length text → get_or text k 0 ≢ slash) → behind_last i place text ≡ place
 unfolding behind_last
-looked name i end b next h e g n =
-    let d : drop (i + 1) name ≡ drop (suc i) name = ap (λ (k : ℕ). drop k name) (add-one i) in
-    rw (n, g, d) (rw (drop-cons name i 0 h) at e)
+none_behind i place [] h = refl
+none_behind i place (b ∷ text) h = rw (ne_eqb b slash (h 0 (omega arith))) (none_behind (i + 1) place text (λ k l. h (suc k) (omega arith)))
 
-pub found : (name : List ℕ) (i end : ℕ) → length name ≤ i → folder_end name ≡ behind_last i end (drop i name) → end ≡ folder_end name
+last_behind : (i place : ℕ) (text : List ℕ) (j : ℕ) → j < length text → get_or text j 0 ≡ slash → ((k : ℕ) → j < k → k < length text → get_or text k 0 ≢ slash) → behind_last i place text ≡ i + j + 1
 unfolding behind_last
-found name i end h e = sym (rw (drop_of_length-le name {i = i} h) at e)
+last_behind i place [] j l e h = absurd (omega (arith, l))
+last_behind i place (b ∷ text) zero l e h = rw (eq-eqb b slash e, none_behind (i + 1) (i + 1) text (λ k m. h (suc k) (omega arith) (omega arith))) (omega arith)
+last_behind i place (b ∷ text) (suc j) l e h =
+    let rest : behind_last (i + 1) (cond (eqb b slash) (i + 1) place) text ≡ i + 1 + j + 1 =
+    last_behind (i + 1) (cond (eqb b slash) (i + 1) place) text j (omega (arith, l)) e (λ k m n. h (suc k) (omega arith) (omega arith)) in
+    omega (arith, rest)
+
+pub no_folder : (name : List ℕ) → ((k : ℕ) → k < length name → get_or name k 0 ≢ slash) → folder_end name ≡ 0
+unfolding folder_end
+no_folder name h = none_behind 0 0 name h
+
+pub folder : (name : List ℕ) (i : ℕ) → i < length name → get_or name i 0 ≡ slash → ((k : ℕ) → i < k → k < length name → get_or name k 0 ≢ slash) → folder_end name ≡ i + 1
+unfolding folder_end
+folder name i l e h = last_behind 0 0 name i l e h ∙ omega arith
 
 -- ---- the temporary name: n bytes of the name were put at the memory's front, and the rest of it behind them
 module _ (name memory first : List ℕ) (n : ℕ) (place : n ≡ folder_end name) (within : n ≤ length name) (room : length name + 17 ≤ length memory) (copied : first ≡ take (n - 0) name ++ post_of 0 (n - 0) memory) where

@@ -2,7 +2,7 @@
 // first: an ordinary file hands on its permissions and its owner, and anything else stays as it is. No contract can say what the system does; the functions that make a name say what they answer.
 #![tactic(auto)]
 
-ghost use Rattle.std.specs.Prelude.{◌≡◌, ◌+◌, ◌-◌, ◌<◌, ◌≤◌, cond, ◌++◌, eqb, length, take, drop};
+ghost use Rattle.std.specs.Prelude.{◌≡◌, ◌≢◌, ℕ, ◌+◌, ◌-◌, ◌<◌, ◌≤◌, ◌++◌, MatchOption, slice_index, length, take, drop};
 ghost use Rattle.saving.specs.Names.{slash, folder_end, temporary_of};
 
 use std::fs::{File, Metadata, OpenOptions, Permissions};
@@ -93,15 +93,11 @@ fn leave_for(rt: &HostRuntime, name: &[u8]) -> Option<Leave>
 
 // ---- the temporary name
 
-// The place behind a slash, which byte i may be; else the place so far.
-fn behind_slash(b: u8, i: usize, place: usize) -> usize
-    requires { i < 256 }
-    ensures { result ≡ cond (eqb b slash) (i + 1) place }
+// Where the name's last slash stands, if it has one.
+fn last_slash(name: &[u8]) -> Option<usize>
+    ensures { MatchOption result ((k : ℕ) → k < length name.now → slice_index name.now k ≢ slash) (λ i. (i < length name.now) × (slice_index name.now i ≡ slash) × ((k : ℕ) → i < k → k < length name.now → slice_index name.now k ≢ slash)) }
 {
-    if b == SLASH {
-        return i + 1;
-    }
-    place
+    name.iter().rposition(|b| *b == SLASH)
 }
 
 // Where the name's last part begins, behind its folder.
@@ -109,14 +105,10 @@ fn folder_end(name: &[u8]) -> usize
     requires { length name.now < 256 }
     ensures { (result ≡ folder_end name.now) × (result ≤ length name.now) }
 {
-    let mut end = 0;
-    let mut i = 0;
-    while i < name.len() {
-        let b = name[i];
-        end = behind_slash(b, i, end);
-        i += 1;
+    match last_slash(name) {
+        Some(i) => i + 1,
+        None => 0,
     }
-    end
 }
 
 // The name's folder and the temporary name at the front of the memory; the place behind both.
@@ -138,8 +130,8 @@ fn fill_in(rt: &HostRuntime, temporary: &mut [u8]) -> Result<()>
     let mut drawn = [0u8; 6];
     rt.fill_bytes(&mut drawn)?;
     let start = temporary.len() - 6;
-    for i in 0..6 {
-        temporary[start + i] = LETTERS[(drawn[i] % 62) as usize];
+    for (to, b) in temporary[start..].iter_mut().zip(drawn) {
+        *to = LETTERS[(b % 62) as usize];
     }
     Ok(())
 }

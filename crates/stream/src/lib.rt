@@ -2,7 +2,7 @@
 // not yet handed on.
 #![tactic(auto)]
 
-ghost use Rattle.std.specs.Prelude.{◌≡◌, ◌+◌, ◌≤◌, ◌<◌, min, ◌++◌, length, take, drop};
+ghost use Rattle.std.specs.Prelude.{◌≡◌, ◌+◌, ◌≤◌, ◌<◌, ◌==◌, position, ◌++◌, length, take, drop};
 ghost use Rattle.std.proofs.Math.Seq.{slice};
 ghost use Rattle.stream.specs.Search.{index_of};
 ghost use Rattle.stream.specs.Stream.{goes_on, all_go_on, most_kept};
@@ -35,16 +35,19 @@ fn eight_go_on(b: &[u8], i: usize) -> bool
         & goes_on(b, i + 7)
 }
 
+// Where the first byte stands that is `byte`, if one is.
+fn first(text: &[u8], byte: u8) -> Option<usize>
+    ensures { result ≡ position (λ b. b == byte) text.now }
+{
+    text.iter().position(|b| *b == byte)
+}
+
 // Where the first byte from `from` on stands that is `byte`; `to`, where none before it is.
-pub fn find(text: &[u8], from: usize, to: usize, byte: u8) -> usize
+fn find(text: &[u8], from: usize, to: usize, byte: u8) -> usize
     requires { (from ≤ to) × (to ≤ length text.now) }
     ensures { (result ≡ from + index_of byte (slice from to text.now)) × (result ≤ to) }
 {
-    let mut i = from;
-    while i < to && text[i] != byte {
-        i += 1;
-    }
-    i
+    from + first(&text[from..to], byte).unwrap_or(to - from)
 }
 
 // Where the line from `from` on ends: at its line feed, or at `to` where it has not ended. It goes by eight bytes, and in the last of them byte by byte.
@@ -59,35 +62,12 @@ pub fn line_end(buffer: &[u8], from: usize, to: usize) -> usize
     find(buffer, i, to, LINE_FEED)
 }
 
-// Moves the n bytes from `from` on to the buffer's front.
-fn move_front(buffer: &mut [u8], from: usize, n: usize)
-    requires { from + n ≤ length buffer.old }
-    ensures { buffer.new ≡ take n (drop from buffer.old) ++ drop n buffer.old }
-{
-    let mut i = 0;
-    while i < n {
-        let b = buffer[from + i];
-        buffer[i] = b;
-        i += 1;
-    }
-}
-
-// The lesser of two counts.
-pub fn least(a: usize, b: usize) -> usize
-    ensures { result ≡ min a b }
-{
-    if a < b {
-        return a;
-    }
-    b
-}
-
 // Keeps the line that has not ended, from `from` to `to`, at the buffer's front, its first 256 bytes; how many bytes are kept.
 pub fn keep(buffer: &mut [u8], from: usize, to: usize) -> usize
     requires { (from ≤ to) × (to ≤ length buffer.old) }
     ensures { (result ≡ length (take most_kept (slice from to buffer.old))) × (buffer.new ≡ take most_kept (slice from to buffer.old) ++ drop result buffer.old) × (result ≤ most_kept) }
 {
-    let n = least(to - from, MOST_KEPT);
-    move_front(buffer, from, n);
+    let n = (to - from).min(MOST_KEPT);
+    buffer.copy_within(from..from + n, 0);
     n
 }

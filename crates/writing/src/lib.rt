@@ -64,13 +64,11 @@ fn put_entries(s: &mut [u8], f: Form, kinds: &[usize], rows: &[usize])
     ensures { s.new ≡ put_entries f s.old kinds.now rows.now f.kinds }
 {
     let mut due = entries::first_body(f);
-    let mut e = 0;
-    while e < f.kinds {
+    for e in 0..f.kinds {
         let kind = kinds[e];
         let n = rows[e];
         put_entry(s, f, e, kind, due, n);
         due += n * entries::width_of(kind);
-        e += 1;
     }
 }
 

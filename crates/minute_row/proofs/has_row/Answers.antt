@@ -1,13 +1,13 @@
 -- `minute_row::has_row` meets its contract. Assumes nothing.
 use mathlib.Core.Path.{◌≡◌, sym, ap, ◌∙◌}
 use Prim.Native.Nat.{◌-◌}
-use lib.IntN.{ℤ, pos}
+use lib.IntN.{pos}
 use lib.Signed.{le_z}
 use mir.Syntax.{w32, w64}
 use mir.Val.{SFits, to_z, of_z}
 use mir.Facts.{to_z-of_z}
 use Rattle.rounding.proofs.Sizes.{Size}
-use Rattle.refusals.specs.Tests.{same_as}
+use Rattle.refusals.proofs.Ranges.{same_bits}
 use Rattle.minute_row.specs.MinuteRow.{from_first_minute}
 use Rattle.minute_row.proofs.Place.{none_below, none_above, place_size, by_minute, cast_place, place-word, own_word}
 use borrow.Author.Rules.{sfits_of, rules}
@@ -40,7 +40,7 @@ returns c =
     let same : to_z w32 (of_z w32 c.args.minute) ≡ c.args.minute = search rules in
     let own : to_z w32 (of_z w32 c.word-own.result) ≡ c.word-own.result = search rules in
     by_minute _ _ _ _ (place (goal.at.returns c).After-from_first_minute-place) c.requires.0 c.if-place-lt0.false (above (goal.at.returns c).Else-place-lt0 ∙ c.if-n-place.false)
-    c.word-own.result _ c.word-own.ensures (c.same_as.ensures ∙ ap (λ (x : ℤ). same_as x (to_z w32 (of_z w32 c.args.minute))) own ∙ ap (same_as c.word-own.result) same)
+    c.word-own.result _ c.word-own.ensures (search same_bits)
 
 pub overflow_cast-place : goal.overflow_cast-place
 overflow_cast-place c = cast_place _ _ (inside c) c.requires.0 c.requires.1 (search rules)

@@ -1,15 +1,11 @@
-use Rattle.std.proofs.Common.{refl}
-use borrow.Author.Rules.{rules}
-use Rattle.saving.specs.Names.{folder_end}
-use Rattle.saving.proofs.Naming.{looked, no_further, found}
+use Rattle.std.proofs.Common.{sym, arith}
+use Rattle.saving.proofs.Naming.{no_folder, folder}
 use Rattle.saving.proofs.folder_end.Goals as goal
 
-pub loop-i-init : goal.loop-i-init
-unfolding folder_end
-loop-i-init c = (refl, search rules, search rules)
+pub returns-in-None : goal.returns-in-None
+returns-in-None c = (sym (no_folder c.args.name.now c.in-None.ensures), omega arith)
 
-pub loop-i-preserved : goal.loop-i-preserved
-loop-i-preserved c = (search looked, search no_further, search rules)
-
-pub returns : goal.returns
-returns c = (search found, search rules)
+pub returns-in-Some : goal.returns-in-Some
+returns-in-Some c =
+    let is = c.in-Some.ensures in
+    (sym (folder c.args.name.now c.in-Some.i is.0 is.1 is.2), omega (arith, is.0))

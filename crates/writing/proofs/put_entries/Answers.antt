@@ -7,7 +7,7 @@ use Rattle.writing.proofs.put_entries.Goals as goal
 
 pub loop-e-init : goal.loop-e-init
 unfolding put_entries due_in
-loop-e-init c = (search rules, refl, refl, search rules, search rules)
+loop-e-init c = (refl, refl, search rules, search rules)
 
 pub put_entry-requires : goal.put_entry-requires
 put_entry-requires c = (search as_long, search rules, search kind_small, search due_small, search rows_small)
@@ -22,7 +22,7 @@ pub overflow_add-due : goal.overflow_add-due
 overflow_add-due c = search end_fits
 
 pub loop-e-preserved : goal.loop-e-preserved
-loop-e-preserved c = (search rules, search rules, search next_put, search next_due, search end_near)
+loop-e-preserved c = (search rules, search next_put, search next_due, search end_near)
 
 pub returns : goal.returns
 returns c = search all_put

@@ -1,6 +1,6 @@
--- The invariant and the measure of `writing::put_entries`'s loop.
+-- The invariant of `writing::put_entries`'s loop.
 use mathlib.Core.Path.{◌≡◌}
-use Prim.Native.Nat.{◌+◌, ◌*◌, ◌-◌, ◌≤◌}
+use Prim.Native.Nat.{◌+◌, ◌*◌, ◌≤◌}
 use lib.ListN.{length}
 use Rattle.entries.specs.Layout.{most_first, most_bytes, most_width}
 use Rattle.writing.specs.Contents.{due_in, put_entries}
@@ -8,7 +8,4 @@ use Rattle.writing.proofs.put_entries.Given as goal
 
 abbrev pub invariant-loop-e : goal.invariant-loop-e
 invariant-loop-e l =
-    (l.e ≤ l.f.kinds) × (length l.s ≡ length l.initial.s) × (l.s ≡ put_entries l.f l.initial.s l.kinds l.rows l.e) × (l.due ≡ due_in l.f l.kinds l.rows l.e) × (l.due ≤ most_first + l.e * (most_bytes * most_width))
-
-abbrev pub decreases-loop-e : goal.decreases-loop-e
-decreases-loop-e l = l.f.kinds - l.e
+    (length l.s ≡ length l.initial.s) × (l.s ≡ put_entries l.f l.initial.s l.kinds l.rows l.e) × (l.due ≡ due_in l.f l.kinds l.rows l.e) × (l.due ≤ most_first + l.e * (most_bytes * most_width))
