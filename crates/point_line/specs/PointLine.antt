@@ -13,6 +13,12 @@ is_form b = eqb b 71 || eqb b 80 || eqb b 83
 unfoldable pub form_of : ℕ → Option Form
 form_of b = cond (eqb b 71) (Some Forward) (cond (eqb b 80) (Some Inverse) (cond (eqb b 83) (Some Convergence) None))
 
+-- What holds for a form: of G, of P, of S.
+abbrev pub by_form : {A : Type 0} → Form → A → A → A → A
+by_form Forward g p s = g
+by_form Inverse g p s = p
+by_form Convergence g p s = s
+
 abbrev pub asks : Form → ℤ → ℤ → Line
 asks form first second = record { form = form; first = first; second = second }
 
