@@ -112,6 +112,7 @@ fn answer_lines<A: Answers>(
 }
 
 // Answers the lines that are held and have ended, and keeps the one that has not.
+#[tactic(auto, unfolding(stream::specs::Stream::kept_of))]
 pub fn answer_block<A: Answers>(
     by: &A,
     buffer: &mut [u8],

@@ -15,6 +15,7 @@ const INPUT: usize = 16_640;
 const OUTPUT: usize = 1_098_240;
 
 // Prints the check's answer and, where it is 0, the answers to the lines behind the name, from `from` on; the bytes to `to` are read.
+#[tactic(auto, using(sheet_check::proofs::Known::sheet_long))]
 fn run(rt: &HostRuntime, sheet: &[u8], input: &mut [u8], from: usize, to: usize, out: &mut [u8])
     requires { (from ≤ to) × (to ≤ length input.old) × (most_kept < length input.old) × (line_room * length input.old ≤ length out.old) }
 {

@@ -4,7 +4,6 @@
 #![tactic(auto)]
 
 ghost use Rattle.std.specs.Prelude.{◌≡◌, ◌*◌, ◌≤◌, ◌<◌, length};
-ghost use Rattle.sheet_check.specs.Check.{check_of};
 ghost use Rattle.compared.specs.Compared.{change_room};
 ghost use Rattle.stream.specs.Stream.{most_kept};
 
@@ -43,35 +42,25 @@ fn less(a: u64, b: u64) -> u64 {
 
 // ---- the sheets
 
-// Compares the lines from `from` on, of which the bytes to `to` are read, on two sheets known to pass.
+// Compares the lines from `from` on, of which the bytes to `to` are read, on two sheets that pass.
 fn compare(
     rt: &HostRuntime,
-    old: &[u8],
-    new: &[u8],
+    sheets: &Comparing,
     input: &mut [u8],
     from: usize,
     to: usize,
     out: &mut [u8],
 )
-    requires { ((check_of old.now).number ≡ 0) × ((check_of new.now).number ≡ 0) × (from ≤ to) × (to ≤ length input.old) × (most_kept < length input.old) × (change_room * length input.old ≤ length out.old) }
+    requires { (from ≤ to) × (to ≤ length input.old) × (most_kept < length input.old) × (change_room * length input.old ≤ length out.old) }
 {
-    let sheets = Comparing {
-        old: tables::known(old, entries::places_of(old)),
-        new: tables::known(new, entries::places_of(new)),
-    };
-    let state = Tally {
-        lines: 0,
-        points: 0,
-        changed: 0,
-        reached: 0,
-        stray: 0,
-    };
+    let state = Tally::default();
     let h = Held { from, to, state };
-    let tally = filter::answer_input(rt, &sheets, input, h, out);
+    let tally = filter::answer_input(rt, sheets, input, h, out);
     say_stray(rt, tally);
 }
 
 // Prints the check's answer for each sheet and, where both are 0, compares the lines from `from` on.
+#[tactic(auto, using(sheet_check::proofs::Known::sheet_long))]
 fn run(
     rt: &HostRuntime,
     old: &[u8],
@@ -98,7 +87,11 @@ fn run(
     if other != 0 {
         return;
     }
-    compare(rt, old, new, input, from, to, out);
+    let sheets = Comparing {
+        old: tables::known(old, entries::places_of(old)),
+        new: tables::known(new, entries::places_of(new)),
+    };
+    compare(rt, &sheets, input, from, to, out);
 }
 
 // The output's memory. It is made apart because the proof of a function that holds so long an array would spell it out.
