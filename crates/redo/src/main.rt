@@ -72,26 +72,18 @@ fn run(
 )
     requires { (from ≤ to) × (to ≤ length input.old) × (most_kept < length input.old) × (change_room * length input.old ≤ length out.old) }
 {
-    let v = sheet_check::check(old);
-    let number = v.number;
-    let i = lines::put_verdict(out, 0, number, v.kind, v.row);
-    let w = sheet_check::check(new);
-    let other = w.number;
-    let at = lines::put_verdict(out, i, other, w.kind, w.row);
+    let first = tables::pass(old);
+    let (number, kind, row) = contents::numbers(first.err());
+    let i = lines::put_verdict(out, 0, number, kind, row);
+    let second = tables::pass(new);
+    let (number, kind, row) = contents::numbers(second.err());
+    let at = lines::put_verdict(out, i, number, kind, row);
     if !files::tell(rt, &out[0..at]) {
         return;
     }
-    if number != 0 {
-        return;
+    if let (Ok(old), Ok(new)) = (first, second) {
+        compare(rt, &Comparing { old, new }, input, from, to, out);
     }
-    if other != 0 {
-        return;
-    }
-    let sheets = Comparing {
-        old: tables::known(old, entries::places_of(old)),
-        new: tables::known(new, entries::places_of(new)),
-    };
-    compare(rt, &sheets, input, from, to, out);
 }
 
 // The output's memory. It is made apart because the proof of a function that holds so long an array would spell it out.
