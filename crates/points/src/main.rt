@@ -31,7 +31,11 @@ fn run(rt: &HostRuntime, sheet: &[u8], input: &mut [u8], from: usize, to: usize,
     let points = Points {
         sheet: tables::known(sheet, entries::places_of(sheet)),
     };
-    let h = Held { from, to, state: () };
+    let h = Held {
+        from,
+        to,
+        state: (),
+    };
     filter::answer_input(rt, &points, input, h, out);
 }
 
