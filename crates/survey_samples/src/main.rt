@@ -39,16 +39,10 @@ fn print_size(rt: &HostRuntime, name: &[u8], n: u64) {
     let _ = rt.print(n);
 }
 
-// A name and a figure. No figure is the least number, which has no size.
+// A name and a figure.
 fn print_figure(rt: &HostRuntime, name: &[u8], z: i64) {
     print(rt, name);
-    if z < -9_223_372_036_854_775_807 {
-        return;
-    }
-    if z < 0 {
-        print(rt, b"-");
-    }
-    let _ = rt.print(rounding::size(z));
+    let _ = rt.print(z);
 }
 
 // Two numbers, each after a blank.
@@ -181,10 +175,8 @@ fn station(rt: &HostRuntime, s: &[u8], p: Places, point: [i32; 4])
 fn station_each(rt: &HostRuntime, s: &[u8], p: Places, points: &[[i32; 4]])
     requires { KnownToPass s.now p }
 {
-    let mut k = 0;
-    while k < points.len() {
-        station(rt, s, p, points[k]);
-        k += 1;
+    for point in points {
+        station(rt, s, p, *point);
     }
 }
 
@@ -203,7 +195,7 @@ fn load(rt: &HostRuntime, name: &[u8], sheet: &mut [u8]) -> usize
     ensures { result ≤ length sheet.new }
 {
     match files::open(rt, name) {
-        Ok(mut file) => files::read_full(&mut file, sheet),
+        Ok(mut file) => files::read_full(&mut file, sheet).unwrap_or(0),
         Err(_) => 0,
     }
 }
