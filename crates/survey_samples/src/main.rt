@@ -38,16 +38,10 @@ fn print_size(rt: &HostRuntime, name: &[u8], n: u64) {
     let _ = rt.print(n);
 }
 
-// A name and a figure. No figure is the least number, which has no size.
+// A name and a figure.
 fn print_figure(rt: &HostRuntime, name: &[u8], z: i64) {
     print(rt, name);
-    if z < -9_223_372_036_854_775_807 {
-        return;
-    }
-    if z < 0 {
-        print(rt, b"-");
-    }
-    let _ = rt.print(rounding::size(z));
+    let _ = rt.print(z);
 }
 
 // Two numbers, each after a blank.
@@ -173,10 +167,8 @@ fn station(rt: &HostRuntime, sheet: Passed, point: [i32; 4])
 // Every station of a table.
 fn station_each(rt: &HostRuntime, sheet: Passed, points: &[[i32; 4]])
 {
-    let mut k = 0;
-    while k < points.len() {
-        station(rt, sheet, points[k]);
-        k += 1;
+    for point in points {
+        station(rt, sheet, *point);
     }
 }
 
@@ -194,7 +186,7 @@ fn load(rt: &HostRuntime, name: &[u8], sheet: &mut [u8]) -> usize
     ensures { result ≤ length sheet.new }
 {
     match files::open(rt, name) {
-        Ok(mut file) => files::read_full(&mut file, sheet),
+        Ok(mut file) => files::read_full(&mut file, sheet).unwrap_or(0),
         Err(_) => 0,
     }
 }
