@@ -1,6 +1,6 @@
 -- The place of the minute's row in the body, as the code finds it: p is how far the minute stands from the first row's. Assumes nothing.
-use mathlib.Core.Path.{◌≡◌, refl, sym, subst, ◌∙◌}
-use mathlib.Core.Bool.{Bool, true, false}
+use mathlib.Core.Path.{◌≡◌, refl, sym, subst, ap, ◌∙◌}
+use mathlib.Core.Bool.{true, false}
 use mathlib.Core.List.{List}
 use Prim.Native.Nat.{ℕ, ◌+◌, ◌-◌, ◌*◌, ◌^◌, ◌<◌, ◌≤◌, zero-le}
 use native.Mathlib.Omega.{arith}
@@ -36,11 +36,11 @@ among (negsuc k) n some e l = absurd (subst T e tt)
 
 -- ---- the minute's row
 module _ (b : List ℕ) (n : ℕ) (minute p : ℤ) (e : p ≡ from_first_minute b minute) (some : 0 < n) where
-  pub none_below : lt_z p (pos 0) ≡ true → false ≡ has_row b n minute
+  pub none_below : lt_z p (pos 0) ≡ true → has_row b n minute ≡ false
   unfolding has_row
   none_below h = rw (← e, below p n h)
 
-  pub none_above : le_z (pos n) p ≡ true → false ≡ has_row b n minute
+  pub none_above : le_z (pos n) p ≡ true → has_row b n minute ≡ false
   unfolding has_row
   none_above h = rw (← e, above p n some h)
 
@@ -48,9 +48,17 @@ module _ (b : List ℕ) (n : ℕ) (minute p : ℤ) (e : p ≡ from_first_minute 
     pub place_size : Size 0 p (n - 1)
     place_size = range_size 0 p (n - 1) (among p n some low high)
 
-    pub by_minute : (own : ℤ) (r : Bool) → own ≡ (row_at b (nat_abs p)).minute → r ≡ same_as own minute → r ≡ has_row b n minute
-    unfolding has_row
-    by_minute own r q t = t ∙ rw (q, ← e, among p n some low high)
+    -- its own minute, as the code reads it
+    module _ (own : ℤ) (q : own ≡ (row_at b (nat_abs p)).minute) where
+      by_minute : has_row b n minute ≡ same_as own minute
+      unfolding has_row
+      by_minute = rw (q, ← e, among p n some low high)
+
+      pub none_there : same_as own minute ≡ false → has_row b n minute ≡ false
+      none_there t = by_minute ∙ t
+
+      pub row_found : same_as own minute ≡ true → (has_row b n minute ≡ true) × (nat_abs p ≡ named_row b minute) × (nat_abs p < n)
+      row_found t = (by_minute ∙ t, ap nat_abs e, omega (arith, place_size.high))
 
 -- ---- what a body that has the row shows of it
 module _ (b : List ℕ) (n : ℕ) (minute : ℤ) (has : has_row b n minute ≡ true) where
