@@ -1,6 +1,6 @@
 -- The place of the minute's row in the body, as the code finds it: p is how far the minute stands from the first row's. Assumes nothing.
 use mathlib.Core.Path.{◌≡◌, refl, sym, subst, ap, ◌∙◌}
-use mathlib.Core.Bool.{true, false}
+use mathlib.Core.Bool.{Bool, true, false}
 use mathlib.Core.List.{List}
 use Prim.Native.Nat.{ℕ, ◌+◌, ◌-◌, ◌*◌, ◌^◌, ◌<◌, ◌≤◌, zero-le}
 use native.Mathlib.Omega.{arith}
@@ -10,6 +10,8 @@ use lib.IntN.{ℤ, pos, negsuc, nat_abs}
 use lib.Signed.{non_neg, lt_z, le_z}
 use mir.Syntax.{w64}
 use mir.Val.{Fits}
+use Rattle.std.specs.Bool.{then_some}
+use Rattle.std.specs.Option.{MatchOption}
 use Rattle.rounding.proofs.Sizes.{Size, size_non_neg}
 use Rattle.rounding.proofs.Tests.{both}
 use Rattle.entries.specs.Layout.{latitude, width_of, row_bytes}
@@ -48,17 +50,16 @@ module _ (b : List ℕ) (n : ℕ) (minute p : ℤ) (e : p ≡ from_first_minute 
     pub place_size : Size 0 p (n - 1)
     place_size = range_size 0 p (n - 1) (among p n some low high)
 
-    -- its own minute, as the code reads it
-    module _ (own : ℤ) (q : own ≡ (row_at b (nat_abs p)).minute) where
-      by_minute : has_row b n minute ≡ same_as own minute
-      unfolding has_row
-      by_minute = rw (q, ← e, among p n some low high)
-
-      pub none_there : same_as own minute ≡ false → has_row b n minute ≡ false
-      none_there t = by_minute ∙ t
-
-      pub row_found : same_as own minute ≡ true → (has_row b n minute ≡ true) × (nat_abs p ≡ named_row b minute) × (nat_abs p < n)
-      row_found t = (by_minute ∙ t, ap nat_abs e, omega (arith, place_size.high))
+    -- its own minute decides
+    pub by_minute : (own : ℤ) (t : Bool) → own ≡ (row_at b (nat_abs p)).minute → t ≡ same_as own minute
+        → MatchOption (then_some t (nat_abs p)) (has_row b n minute ≡ false) (λ r. (has_row b n minute ≡ true) × (r ≡ named_row b minute) × (r < n))
+    unfolding has_row
+    by_minute own t q same = pick t (rw (q, ← e, among p n some low high) (sym same))
+      where
+        pick : (t : Bool) → has_row b n minute ≡ t
+            → MatchOption (then_some t (nat_abs p)) (has_row b n minute ≡ false) (λ r. (has_row b n minute ≡ true) × (r ≡ named_row b minute) × (r < n))
+        pick true h = (h, ap nat_abs e, omega (arith, place_size.high))
+        pick false h = h
 
 -- ---- what a body that has the row shows of it
 module _ (b : List ℕ) (n : ℕ) (minute : ℤ) (has : has_row b n minute ≡ true) where

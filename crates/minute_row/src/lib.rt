@@ -26,8 +26,6 @@ pub fn named_row(b: &[u8], n: usize, minute: i32) -> Option<usize>
         return None;
     }
     let r = place as usize;
-    if words::word(b, entries::LATITUDE_WIDTH * r) != minute {
-        return None;
-    }
-    Some(r)
+    let own = words::word(b, entries::LATITUDE_WIDTH * r);
+    (own == minute).then_some(r)
 }

@@ -11,9 +11,8 @@ use Rattle.rounding.proofs.Sizes.{Size}
 use Rattle.refusals.specs.Tests.{same_as}
 use Rattle.refusals.proofs.Ranges.{same_bits}
 use Rattle.minute_row.specs.MinuteRow.{from_first_minute}
-use Rattle.minute_row.proofs.Place.{none_below, none_above, none_there, row_found, place_size}
+use Rattle.minute_row.proofs.Place.{none_below, none_above, by_minute, place_size}
 use borrow.Author.Rules.{sfits_of, rules}
-use borrow.Author.Tests.{eq-eqb, ne_eqb}
 use Rattle.minute_row.proofs.named_row.Goals as goal
 use Rattle.minute_row.proofs.named_row.Goals.{After-from_first_minute-place, Else-n-place, Else-place-lt0}
 
@@ -38,14 +37,9 @@ returns-then-place-lt0 c = none_below _ _ _ _ (place (goal.at.returns-then-place
 pub returns-then-n-place : goal.returns-then-n-place
 returns-then-n-place c = none_above _ _ _ _ (place (goal.at.returns-then-n-place c).After-from_first_minute-place) c.requires.0 (above (goal.at.returns-then-n-place c).Else-place-lt0 ∙ c.if-n-place.true)
 
-pub returns-then-word-minute : goal.returns-then-word-minute
-returns-then-word-minute c =
-    let same : eqb (of_z w32 c.word.result) (of_z w32 c.args.minute) ≡ same_as c.word.result c.args.minute = search same_bits in
-    none_there _ _ _ _ (place (goal.at.returns-then-word-minute c).After-from_first_minute-place) c.requires.0 c.if-place-lt0.false (above (goal.at.returns-then-word-minute c).Else-place-lt0 ∙ c.if-n-place.false)
-    c.word.result c.word.ensures (sym same ∙ ne_eqb _ _ c.if-word-minute.true)
-
 pub returns : goal.returns
 returns c =
-    let same : eqb (of_z w32 c.word.result) (of_z w32 c.args.minute) ≡ same_as c.word.result c.args.minute = search same_bits in
-    row_found _ _ _ _ (place (goal.at.returns c).After-from_first_minute-place) c.requires.0 c.if-place-lt0.false (above (goal.at.returns c).Else-place-lt0 ∙ c.if-n-place.false)
-    c.word.result c.word.ensures (sym same ∙ eq-eqb _ _ c.if-word-minute.false)
+    let same : eqb (of_z w32 c.word-own.result) (of_z w32 c.args.minute) ≡ same_as c.word-own.result c.args.minute = search same_bits in
+    rw c.then_some.ensures
+    (by_minute _ _ _ _ (place (goal.at.returns c).After-from_first_minute-place) c.requires.0 c.if-place-lt0.false (above (goal.at.returns c).Else-place-lt0 ∙ c.if-n-place.false)
+    c.word-own.result _ c.word-own.ensures same)
