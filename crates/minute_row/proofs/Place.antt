@@ -54,7 +54,7 @@ module _ (b : List ℕ) (n : ℕ) (minute p : ℤ) (e : p ≡ from_first_minute 
     pub by_minute : (own : ℤ) (t : Bool) → own ≡ (row_at b (nat_abs p)).minute → t ≡ same_as own minute
         → MatchOption (then_some t (nat_abs p)) (has_row b n minute ≡ false) (λ r. (has_row b n minute ≡ true) × (r ≡ named_row b minute) × (r < n))
     unfolding has_row
-    by_minute own t q same = pick t (rw (q, ← e, among p n some low high) (sym same))
+    by_minute own t q same = pick t (sym (same ∙ rw (q, ← e, among p n some low high)))
       where
         pick : (t : Bool) → has_row b n minute ≡ t
             → MatchOption (then_some t (nat_abs p)) (has_row b n minute ≡ false) (λ r. (has_row b n minute ≡ true) × (r ≡ named_row b minute) × (r < n))
