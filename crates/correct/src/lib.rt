@@ -2,12 +2,14 @@
 #![tactic(auto)]
 
 ghost use Rattle.std.specs.Prelude.{◌≡◌, true, ◌+◌, ◌*◌, ◌<◌, ◌≤◌, length};
+ghost use Rattle.refusals.specs.Numbers.{number};
 ghost use Rattle.entries.specs.Layout.{latitude, row_bytes};
 ghost use Rattle.rules.specs.Latitude.{figures_in_range};
 ghost use Rattle.writing.specs.Rows.{put_figures};
 ghost use Rattle.judge.specs.Judge.{bound_before, bound_after, judged_by};
 ghost use Rattle.correct.specs.Correction.{correction_of, worked_at, rewritten, corrected_body, figures, corrected_of};
 
+use refusals::Refusal;
 use rules::{Differences, Figures};
 
 // The differences that row r of n has with figures f: those to the next row, and none in the last.
@@ -34,31 +36,31 @@ fn rewrite(b: &mut [u8], n: usize, r: usize, f: Figures)
     }
 }
 
-// 16, 6 or 8, and the body of n rows stays; or 0, and the minute's row has the new figures.
-fn correct_body(b: &mut [u8], n: usize, minute: i32, f: Figures) -> u32
+// 16, 6 or 8, and the body of n rows stays; or the correction is accepted, and the minute's row has the new figures.
+fn correct_body(b: &mut [u8], n: usize, minute: i32, f: Figures) -> Result<(), Refusal>
     requires { (0 < n) × (row_bytes latitude * n ≤ length b.old) }
-    ensures answer { result ≡ judged_by b.old n minute f }
+    ensures answer { number result ≡ judged_by b.old n minute f }
     ensures memory { b.new ≡ corrected_body b.old n minute f }
 {
-    let judged = judge::judge(b, n, minute, f);
-    if judged != 0 {
-        return judged;
-    }
-    let r = minute_row::named_row(b, n, minute);
+    let r = judge::judge(b, n, minute, f)?;
     rewrite(b, n, r, f);
-    judged
+    Ok(())
 }
 
-// A correction of the minute's latitude row: new y0 (0.01 ft), H (0.000001), V (0.000001) and a (0.001). 0 where it is accepted and written; else 1 to 5, 16, 6 or 8, and the
+// A correction of the minute's latitude row: new y0 (0.01 ft), H (0.000001), V (0.000001) and a (0.001). It is accepted and written; or refused by 1 to 5, 16, 6 or 8, and the
 // sheet stays as it was. The latitude body is lent to its corrector as the part of the sheet that holds it.
-pub fn correct(sheet: &mut [u8], minute: i32, y0: i32, h: i32, v: i32, a: i32) -> u32
-    ensures answer { result ≡ correction_of sheet.old minute (figures y0 h v a) }
+pub fn correct(
+    sheet: &mut [u8],
+    minute: i32,
+    y0: i32,
+    h: i32,
+    v: i32,
+    a: i32,
+) -> Result<(), Refusal>
+    ensures answer { number result ≡ correction_of sheet.old minute (figures y0 h v a) }
     ensures memory { sheet.new ≡ corrected_of sheet.old minute (figures y0 h v a) }
 {
-    let number = contents::contents(sheet).number;
-    if number != 0 {
-        return number;
-    }
+    contents::contents(sheet)?;
     let place = entries::place_of(sheet, entries::LATITUDE);
     let start = 4 * place.start;
     let end = start + 4 * (place.rows * entries::LATITUDE_WIDTH);

@@ -1,10 +1,11 @@
--- What the judge's number tells: 0 exactly where every rule is kept. Assumes nothing.
-use mathlib.Core.Path.{◌≡◌, ◌∙◌}
-use mathlib.Core.Bool.{true}
+-- What the judge's number tells, 0 exactly where every rule is kept, and how the row that the minute names gives way to the other rules. Assumes nothing.
+use mathlib.Core.Path.{◌≡◌, sym, ◌∙◌}
+use mathlib.Core.Bool.{true, false}
 use mathlib.Core.List.{List}
 use Prim.Native.Nat.{ℕ}
 use native.Mathlib.Omega.{arith}
 use lib.IntN.{ℤ}
+use Rattle.refusals.specs.Ladder.{need}
 use Rattle.refusals.proofs.Ladders.{rung, past}
 use Rattle.rules.specs.declared.Figures.{Figures}
 use Rattle.rules.specs.Latitude.{figures_in_range}
@@ -31,3 +32,15 @@ module _ (b : List ℕ) (n : ℕ) (minute : ℤ) (f : Figures) where
   pub kept-zero : Kept → judged_by b n minute f ≡ 0
   unfolding judged_by
   kept-zero k = past 16 _ k.row ∙ past 6 _ k.range ∙ past 8 _ k.before ∙ past 8 0 k.after
+
+  -- past the row, r: the rungs that are left
+  abbrev pub by_row : ℕ → ℕ
+  by_row r = need (figures_in_range f) 6 (need (bound_before b r f) 8 (need (bound_after b n r f) 8 0))
+
+  pub no_row : has_row b n minute ≡ false → 16 ≡ judged_by b n minute f
+  unfolding judged_by need
+  no_row h = rw h
+
+  pub row_found : has_row b n minute ≡ true → (r : ℕ) → r ≡ named_row b minute → by_row r ≡ judged_by b n minute f
+  unfolding judged_by
+  row_found h r e = rw e (sym (past 16 (by_row (named_row b minute)) h))

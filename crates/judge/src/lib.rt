@@ -1,10 +1,13 @@
-// The judging of a correction of one latitude row: 16, then 6 and 8 by the check's own rules, or 0 where it is accepted.
+// The judging of a correction of one latitude row: 16, then 6 and 8 by the check's own rules, or the row where it is accepted.
 #![tactic(auto)]
 
-ghost use Rattle.std.specs.Prelude.{◌≡◌, true, ◌*◌, ◌<◌, ◌≤◌, length};
+ghost use Rattle.std.specs.Prelude.{◌≡◌, ◌*◌, ◌<◌, ◌≤◌, length, IfOk};
+ghost use Rattle.refusals.specs.Numbers.{number};
 ghost use Rattle.entries.specs.Layout.{latitude, row_bytes};
+ghost use Rattle.minute_row.specs.MinuteRow.{named_row};
 ghost use Rattle.judge.specs.Judge.{bound_before, bound_after, judged_by};
 
+use refusals::Refusal;
 use rules::Figures;
 
 // Whether row r with the new figures keeps its bounds with the row before.
@@ -29,23 +32,23 @@ fn bound_after(b: &[u8], n: usize, r: usize, f: Figures) -> bool
     true
 }
 
-// 16, 6 or 8, or 0 where the new figures are accepted for the minute's row.
-pub fn judge(b: &[u8], n: usize, minute: i32, f: Figures) -> u32
+// The minute's row, where the new figures are accepted for it; else 16, 6 or 8.
+pub fn judge(b: &[u8], n: usize, minute: i32, f: Figures) -> Result<usize, Refusal>
     requires { (0 < n) × (row_bytes latitude * n ≤ length b.now) }
-    ensures { result ≡ judged_by b.now n minute f }
+    ensures number { number result ≡ judged_by b.now n minute f }
+    ensures row { IfOk result (λ r. (r ≡ named_row b.now minute) × (r < n)) }
 {
-    if !minute_row::has_row(b, n, minute) {
-        return 16;
-    }
+    let Some(r) = minute_row::named_row(b, n, minute) else {
+        return Err(Refusal::NoRow);
+    };
     if !rules::figures_in_range(f) {
-        return 6;
+        return Err(Refusal::Range);
     }
-    let r = minute_row::named_row(b, n, minute);
     if !bound_before(b, r, f) {
-        return 8;
+        return Err(Refusal::Bound);
     }
     if !bound_after(b, n, r, f) {
-        return 8;
+        return Err(Refusal::Bound);
     }
-    0
+    Ok(r)
 }

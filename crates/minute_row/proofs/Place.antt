@@ -1,5 +1,5 @@
 -- The place of the minute's row in the body, as the code finds it: p is how far the minute stands from the first row's. Assumes nothing.
-use mathlib.Core.Path.{◌≡◌, refl, sym, subst, ◌∙◌}
+use mathlib.Core.Path.{◌≡◌, refl, sym, subst, ap, ◌∙◌}
 use mathlib.Core.Bool.{Bool, true, false}
 use mathlib.Core.List.{List}
 use Prim.Native.Nat.{ℕ, ◌+◌, ◌-◌, ◌*◌, ◌^◌, ◌<◌, ◌≤◌, zero-le}
@@ -10,6 +10,8 @@ use lib.IntN.{ℤ, pos, negsuc, nat_abs}
 use lib.Signed.{non_neg, lt_z, le_z}
 use mir.Syntax.{w64}
 use mir.Val.{Fits}
+use Rattle.std.specs.Bool.{then_some}
+use Rattle.std.specs.Option.{MatchOption}
 use Rattle.rounding.proofs.Sizes.{Size, size_non_neg}
 use Rattle.rounding.proofs.Tests.{both}
 use Rattle.entries.specs.Layout.{latitude, width_of, row_bytes}
@@ -36,11 +38,11 @@ among (negsuc k) n some e l = absurd (subst T e tt)
 
 -- ---- the minute's row
 module _ (b : List ℕ) (n : ℕ) (minute p : ℤ) (e : p ≡ from_first_minute b minute) (some : 0 < n) where
-  pub none_below : lt_z p (pos 0) ≡ true → false ≡ has_row b n minute
+  pub none_below : lt_z p (pos 0) ≡ true → has_row b n minute ≡ false
   unfolding has_row
   none_below h = rw (← e, below p n h)
 
-  pub none_above : le_z (pos n) p ≡ true → false ≡ has_row b n minute
+  pub none_above : le_z (pos n) p ≡ true → has_row b n minute ≡ false
   unfolding has_row
   none_above h = rw (← e, above p n some h)
 
@@ -48,9 +50,16 @@ module _ (b : List ℕ) (n : ℕ) (minute p : ℤ) (e : p ≡ from_first_minute 
     pub place_size : Size 0 p (n - 1)
     place_size = range_size 0 p (n - 1) (among p n some low high)
 
-    pub by_minute : (own : ℤ) (r : Bool) → own ≡ (row_at b (nat_abs p)).minute → r ≡ same_as own minute → r ≡ has_row b n minute
+    -- its own minute decides
+    pub by_minute : (own : ℤ) (t : Bool) → own ≡ (row_at b (nat_abs p)).minute → t ≡ same_as own minute
+        → MatchOption (then_some t (nat_abs p)) (has_row b n minute ≡ false) (λ r. (has_row b n minute ≡ true) × (r ≡ named_row b minute) × (r < n))
     unfolding has_row
-    by_minute own r q t = t ∙ rw (q, ← e, among p n some low high)
+    by_minute own t q same = pick t (sym (same ∙ rw (q, ← e, among p n some low high)))
+      where
+        pick : (t : Bool) → has_row b n minute ≡ t
+            → MatchOption (then_some t (nat_abs p)) (has_row b n minute ≡ false) (λ r. (has_row b n minute ≡ true) × (r ≡ named_row b minute) × (r < n))
+        pick true h = (h, ap nat_abs e, omega (arith, place_size.high))
+        pick false h = h
 
 -- ---- what a body that has the row shows of it
 module _ (b : List ℕ) (n : ℕ) (minute : ℤ) (has : has_row b n minute ≡ true) where
