@@ -64,8 +64,12 @@ fn is_touched(sheet: Passed, l: Line, minute: i32) -> bool
     ensures { result ≡ touches sheet.entry.bytes.now (Some l) minute }
 {
     match l.form {
-        Form::Forward => touched::forward_touched(sheet, minute, l.first, l.second).unwrap_or(false),
-        Form::Inverse => touched::inverse_touched(sheet, minute, l.first, l.second).unwrap_or(false),
+        Form::Forward => touched::forward_touched(sheet, minute, l.first, l.second).unwrap_or(
+            false,
+        ),
+        Form::Inverse => touched::inverse_touched(sheet, minute, l.first, l.second).unwrap_or(
+            false,
+        ),
         Form::Convergence => false,
     }
 }
