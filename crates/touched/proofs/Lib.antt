@@ -1,4 +1,3 @@
 -- Laws of which points a correction may touch. Other crates cite them.
-pub mod ByMinute
 pub mod Beside
 pub mod Answered

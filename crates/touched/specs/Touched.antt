@@ -1,8 +1,10 @@
 -- Which points to redo after a correction of one latitude row. Of a geographic point: whether an accepted correction of the minute's row may change what geographic to plane answers.
 -- Of a plane point: the same for plane to geographic. Convergence and scale it never changes. s is the sheet, r the row of the minute, counted from 0. North and west are a latitude and
 -- a west longitude in 0.001″; x and y are in 0.01 ft.
-use Rattle.std.specs.Prelude.{Bool, false, ◌&&◌, List, ℕ, ◌+◌, ◌-◌, ltb, ℤ, pos, nat_abs, ◌+ℤ◌, ◌-ℤ◌, ◌*ℤ◌}
+use Rattle.std.specs.Prelude.{Bool, false, ◌&&◌, List, ℕ, ◌+◌, ◌-◌, ltb, ℤ, pos, nat_abs, ◌+ℤ◌, ◌-ℤ◌, ◌*ℤ◌, Result, Ok, Err}
 use Rattle.std.specs.Int.Signed.{le_z, lt_z}
+use Rattle.refusals.specs.declared.Refusal.{Refusal}
+use Rattle.refusals.specs.Numbers.{number_of}
 use Rattle.refusals.specs.Ladder.{need, where_below}
 use Rattle.rules.specs.Latitude.{most_rise}
 use Rattle.entries.specs.Layout.{latitude, one_minute}
@@ -12,14 +14,22 @@ use Rattle.extent.specs.Extent.{latitude_known, longitude_known, x_prime, eastin
 use Rattle.inverse.specs.Inverse.{reduced_northing}
 use Rattle.convert.specs.Conversions.{after_check}
 use Rattle.minute_row.specs.MinuteRow.{named_row, has_row}
-use Rattle.touched.specs.declared.Touch.{Touch}
 
--- The answer: a number, and whether the point's answer may change. Where the number is not 0 the question is refused: then `touched` is false, and says nothing of the point.
+-- The answer, as it is told: a number, and whether the point's answer may change. Where the number is not 0 the question is refused: then `touched` is false, and says nothing of the point.
+pub record TouchTold : Type 0 where
+  pub number : ℕ
+  pub touched : Bool
+
 abbrev pub touch : ℕ → Bool → TouchTold
 touch number touched = record { number = number; touched = touched }
 
 abbrev pub no_touch : ℕ → TouchTold
 no_touch number = touch number false
+
+-- What code answers, as it is told.
+abbrev pub touch_told : Result Bool Refusal → TouchTold
+touch_told (Ok t) = touch 0 t
+touch_told (Err r) = no_touch (number_of r)
 
 -- Whether the sheet has a latitude row with the minute, and that row's number, both as a correction finds them.
 abbrev pub has_minute : List ℕ → ℤ → Bool

@@ -1,42 +1,17 @@
 // Which points a correction of one latitude row may touch. Each question has two forms with one definition: over any bytes, which are checked first, and over a sheet that passes.
 #![tactic(auto)]
 
-ghost use Rattle.std.specs.Prelude.{◌≡◌, true, ◌<◌};
+ghost use Rattle.std.specs.Prelude.{◌≡◌, true, false, ◌<◌, MatchOption};
 ghost use Rattle.entries.specs.Layout.{latitude};
 ghost use Rattle.entries.specs.Entries.{rows_of};
-ghost use Rattle.touched.specs.Touched.{no_touch, has_minute, row_named, near_row, forward_touched, above_prior, below_next, inverse_touched, geographic_touched, plane_touched};
+ghost use Rattle.touched.specs.Touched.{touch_told, has_minute, row_named, near_row, forward_touched, above_prior, below_next, inverse_touched, geographic_touched, plane_touched};
 
+use refusals::Refusal;
 use tables::Passed;
 
-// Whether a correction may change a point's answer. A refusal has its number, and no.
-#[derive(Clone, Copy)]
-pub struct Touch {
-    pub number: u32,
-    pub touched: bool,
-}
-
-// A refusal with its number.
-fn refused(number: u32) -> Touch
-    ensures { result ≡ no_touch number }
-{
-    Touch {
-        number,
-        touched: false,
-    }
-}
-
-// Whether the sheet has a latitude row with the minute.
-fn has_minute(sheet: Passed, minute: i32) -> bool
-    ensures { result ≡ has_minute sheet.entry.bytes.now minute }
-{
-    let rows = sheet.table(entries::LATITUDE);
-    minute_row::has_row(rows.body(), rows.place.rows, minute)
-}
-
-// The latitude row with the minute, which the sheet has.
-fn row_named(sheet: Passed, minute: i32) -> usize
-    requires { has_minute sheet.bytes.now minute ≡ true }
-    ensures { (result ≡ row_named sheet.entry.bytes.now minute) × (result < rows_of sheet.entry.bytes.now latitude) }
+// The latitude row with the minute; none where the sheet has no such row.
+fn row_named(sheet: Passed, minute: i32) -> Option<usize>
+    ensures { MatchOption result (has_minute sheet.entry.bytes.now minute ≡ false) (λ r. (has_minute sheet.entry.bytes.now minute ≡ true) × (r ≡ row_named sheet.entry.bytes.now minute) × (r < rows_of sheet.entry.bytes.now latitude)) }
 {
     let rows = sheet.table(entries::LATITUDE);
     minute_row::named_row(rows.body(), rows.place.rows, minute)
@@ -101,49 +76,46 @@ fn may_move_earth(sheet: Passed, r: usize, x: i32, y: i32) -> bool
     above_prior(sheet, r, reduced) & below_next(sheet, r, reduced)
 }
 
-// Whether a correction of the minute's row may change the answer to a geographic point, on a sheet that passes.
-pub fn forward_touched(sheet: Passed, minute: i32, latitude: i32, longitude: i32) -> Touch
-    ensures { result ≡ geographic_touched sheet.entry.bytes.now minute latitude longitude }
+// Whether a correction of the minute's row may change the answer to a geographic point, on a sheet that passes: 16, or yes or no.
+pub fn forward_touched(
+    sheet: Passed,
+    minute: i32,
+    latitude: i32,
+    longitude: i32,
+) -> Result<bool, Refusal>
+    ensures { touch_told result ≡ geographic_touched sheet.entry.bytes.now minute latitude longitude }
 {
-    if !has_minute(sheet, minute) {
-        return refused(16);
+    if row_named(sheet, minute).is_none() {
+        return Err(Refusal::NoRow);
     }
-    Touch {
-        number: 0,
-        touched: may_move_plane(sheet, minute, latitude, longitude),
-    }
+    Ok(may_move_plane(sheet, minute, latitude, longitude))
 }
 
 // Whether a correction of the minute's row may change what `convert::geographic_to_plane` answers: the check's number, 16, or yes or no.
-pub fn geographic_touched(sheet: &[u8], minute: i32, latitude: i32, longitude: i32) -> Touch
-    ensures { result ≡ geographic_touched sheet.now minute latitude longitude }
+pub fn geographic_touched(
+    sheet: &[u8],
+    minute: i32,
+    latitude: i32,
+    longitude: i32,
+) -> Result<bool, Refusal>
+    ensures { touch_told result ≡ geographic_touched sheet.now minute latitude longitude }
 {
-    match tables::pass(sheet) {
-        Ok(sheet) => forward_touched(sheet, minute, latitude, longitude),
-        Err(verdict) => refused(verdict.number),
-    }
+    forward_touched(tables::pass(sheet)?, minute, latitude, longitude)
 }
 
-// Whether a correction of the minute's row may change the answer to a plane point, on a sheet that passes.
-pub fn inverse_touched(sheet: Passed, minute: i32, x: i32, y: i32) -> Touch
-    ensures { result ≡ plane_touched sheet.entry.bytes.now minute x y }
+// Whether a correction of the minute's row may change the answer to a plane point, on a sheet that passes: 16, or yes or no.
+pub fn inverse_touched(sheet: Passed, minute: i32, x: i32, y: i32) -> Result<bool, Refusal>
+    ensures { touch_told result ≡ plane_touched sheet.entry.bytes.now minute x y }
 {
-    if !has_minute(sheet, minute) {
-        return refused(16);
-    }
-    let r = row_named(sheet, minute);
-    Touch {
-        number: 0,
-        touched: may_move_earth(sheet, r, x, y),
-    }
+    let Some(r) = row_named(sheet, minute) else {
+        return Err(Refusal::NoRow);
+    };
+    Ok(may_move_earth(sheet, r, x, y))
 }
 
 // Whether a correction of the minute's row may change what `convert::plane_to_geographic` answers: the check's number, 16, or yes or no.
-pub fn plane_touched(sheet: &[u8], minute: i32, x: i32, y: i32) -> Touch
-    ensures { result ≡ plane_touched sheet.now minute x y }
+pub fn plane_touched(sheet: &[u8], minute: i32, x: i32, y: i32) -> Result<bool, Refusal>
+    ensures { touch_told result ≡ plane_touched sheet.now minute x y }
 {
-    match tables::pass(sheet) {
-        Ok(sheet) => inverse_touched(sheet, minute, x, y),
-        Err(verdict) => refused(verdict.number),
-    }
+    inverse_touched(tables::pass(sheet)?, minute, x, y)
 }
