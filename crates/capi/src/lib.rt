@@ -271,7 +271,10 @@ pub fn bannerscale_correct(sheet: &mut [u8], minute: i32, y0: i32, h: i32, v: i3
     ensures answer { result ≡ correction_of sheet.old minute (figures y0 h v a) }
     ensures memory { sheet.new ≡ corrected_of sheet.old minute (figures y0 h v a) }
 {
-    refusals::number(correct::correct(sheet, minute, y0, h, v, a))
+    match correct::correct(sheet, minute, y0, h, v, a) {
+        Ok(()) => 0,
+        Err(e) => e.number(),
+    }
 }
 
 pub fn bannerscale_geographic_touched(
