@@ -1,5 +1,5 @@
 -- Whether a row differs, in the shape of the code, and the latitude bodies as they are lent. Assumes nothing.
-use mathlib.Core.Path.{◌≡◌, sym, ◌∙◌}
+use mathlib.Core.Path.{◌≡◌, ◌∙◌}
 use mathlib.Core.Bool.{Bool, true, false, not, ◌&&◌}
 use mathlib.Core.List.{List}
 use Prim.Native.Nat.{ℕ, ◌*◌}
@@ -16,28 +16,25 @@ use Rattle.latitude_rows.specs.Rows.{figures_at}
 use Rattle.minute_row.specs.MinuteRow.{named_row, has_row}
 use Rattle.differing.specs.Differing.{same_figures, row_differs, differs_at, is_differing}
 
--- ---- one row: t is the test of its minute
-module _ (b c : List ℕ) (m i : ℕ) (minute : ℤ) (e : minute ≡ word_at b (width_of latitude * i)) (t : Bool) (h : t ≡ has_row c m minute) where
-  pub not_there : t ≡ false → true ≡ row_differs b c m i
+-- ---- one row
+module _ (b c : List ℕ) (m i : ℕ) (minute : ℤ) (e : minute ≡ word_at b (width_of latitude * i)) where
+  pub not_there : has_row c m minute ≡ false → true ≡ row_differs b c m i
   unfolding row_differs need
-  not_there n = rw (← e, ← h, n)
+  not_there n = rw (← e, n)
 
-  pub there : t ≡ true → has_row c m minute ≡ true
-  there n = sym h ∙ n
-
-  pub as-figures : t ≡ true → (j : ℕ) (f g : Figures) (r : Bool) → j ≡ named_row c minute → f ≡ figures_at b i → g ≡ figures_at c j → r ≡ same_figures f g → not r ≡ row_differs b c m i
+  pub as-figures : has_row c m minute ≡ true → (j : ℕ) (f g : Figures) (r : Bool) → j ≡ named_row c minute → f ≡ figures_at b i → g ≡ figures_at c j → r ≡ not (same_figures f g) → r ≡ row_differs b c m i
   unfolding row_differs need
-  as-figures n j f g r k u v q = rw (← e, ← h, n, ← k, ← u, ← v, q)
+  as-figures n j f g r k u v q = q ∙ rw (← e, n, ← k, ← u, ← v)
 
--- ---- the minute's row: t is the test of it, minute' has the bits of the minute
-module _ (b : List ℕ) (n : ℕ) (c : List ℕ) (m : ℕ) (minute minute' : ℤ) (same : minute' ≡ minute) (t : Bool) (h : t ≡ has_row b n minute') where
-  pub no_row : t ≡ false → false ≡ differs_at b n c m minute
+-- ---- the minute's row
+module _ (b : List ℕ) (n : ℕ) (c : List ℕ) (m : ℕ) (minute : ℤ) where
+  pub no_row : has_row b n minute ≡ false → false ≡ differs_at b n c m minute
   unfolding differs_at
-  no_row e = rw (← same, ← h, e)
+  no_row e = rw e
 
-  pub of_row : t ≡ true → (i : ℕ) (r : Bool) → i ≡ named_row b minute' → r ≡ row_differs b c m i → r ≡ differs_at b n c m minute
+  pub of_row : has_row b n minute ≡ true → (i : ℕ) (r : Bool) → i ≡ named_row b minute → r ≡ row_differs b c m i → r ≡ differs_at b n c m minute
   unfolding differs_at
-  of_row e i r k q = q ∙ rw (← same, ← h, e, k)
+  of_row e i r k q = q ∙ rw (e, k)
 
 -- ---- of two sheets: the bodies as they are lent
 pub of_sheets : (s t b c : List ℕ) (n m : ℕ) (minute minute' : ℤ) (r : Bool) → b ≡ body_of s latitude → n ≡ rows_of s latitude → c ≡ body_of t latitude → m ≡ rows_of t latitude

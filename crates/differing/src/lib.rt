@@ -3,20 +3,9 @@
 
 ghost use Rattle.std.specs.Prelude.{◌≡◌, ◌+◌, ◌*◌, ◌<◌, ◌≤◌, length};
 ghost use Rattle.entries.specs.Layout.{latitude, row_bytes};
-ghost use Rattle.differing.specs.Differing.{same_figures, row_differs, differs_at, is_differing};
+ghost use Rattle.differing.specs.Differing.{row_differs, differs_at, is_differing};
 
-use rules::Figures;
 use tables::Passed;
-
-// Whether the four figures are the same.
-fn same_figures(f: Figures, g: Figures) -> bool
-    ensures { result ≡ same_figures f g }
-{
-    refusals::same_as(f.y0, g.y0)
-        & refusals::same_as(f.h, g.h)
-        & refusals::same_as(f.v, g.v)
-        & refusals::same_as(f.a, g.a)
-}
 
 // Whether row i of the old latitude body b is different in the new one, c, of m rows, or missing there.
 fn row_differs(b: &[u8], i: usize, c: &[u8], m: usize) -> bool
@@ -24,14 +13,10 @@ fn row_differs(b: &[u8], i: usize, c: &[u8], m: usize) -> bool
     ensures { result ≡ row_differs b.now c.now m i }
 {
     let minute = words::word(b, entries::LATITUDE_WIDTH * i);
-    if !minute_row::has_row(c, m, minute) {
-        return true;
+    match minute_row::named_row(c, m, minute) {
+        Some(j) => latitude_rows::figures_at(b, i) != latitude_rows::figures_at(c, j),
+        None => true,
     }
-    let j = minute_row::named_row(c, m, minute);
-    !same_figures(
-        latitude_rows::figures_at(b, i),
-        latitude_rows::figures_at(c, j),
-    )
 }
 
 // Whether the old latitude body b, of n rows, has a row with the minute, and that row is different in the new one, c, of m rows, or missing there.
@@ -39,10 +24,10 @@ fn differs_in(b: &[u8], n: usize, c: &[u8], m: usize, minute: i32) -> bool
     requires { (0 < n) × (row_bytes latitude * n ≤ length b.now) × (0 < m) × (row_bytes latitude * m ≤ length c.now) }
     ensures { result ≡ differs_at b.now n c.now m minute }
 {
-    if !minute_row::has_row(b, n, minute) {
-        return false;
+    match minute_row::named_row(b, n, minute) {
+        Some(i) => row_differs(b, i, c, m),
+        None => false,
     }
-    row_differs(b, minute_row::named_row(b, n, minute), c, m)
 }
 
 // Whether the old sheet has a latitude row with the minute, and that row is different in the new one, or missing there.

@@ -2,20 +2,17 @@
 use mathlib.Core.Path.{◌≡◌}
 use mir.Syntax.{w32}
 use mir.Val.{to_z, of_z}
-use Rattle.refusals.proofs.Ladders.{kept}
 use Rattle.differing.proofs.OneRow.{no_row, of_row}
 use borrow.Author.Rules.{rules}
 use Rattle.differing.proofs.differs_in.Goals as goal
 
-pub returns-then-not-has_row : goal.returns-then-not-has_row
-returns-then-not-has_row c =
-    let same : to_z w32 (of_z w32 c.args.minute) ≡ c.args.minute = search rules in
-    no_row _ _ _ _ _ _ same _ c.has_row.ensures c.if-not-has_row.true
+pub returns-in-Some : goal.returns-in-Some
+returns-in-Some c =
+    let minute : to_z w32 (of_z w32 c.args.minute) ≡ c.args.minute = search rules in
+    let row = rw minute at c.in-Some.ensures in
+    of_row _ _ _ _ _ row.0 _ _ row.1 c.row_differs.ensures
 
-pub named_row-requires : goal.named_row-requires
-named_row-requires c = (c.requires.0, c.requires.1, kept _ _ c.has_row.ensures c.if-not-has_row.false)
-
-pub returns : goal.returns
-returns c =
-    let same : to_z w32 (of_z w32 c.args.minute) ≡ c.args.minute = search rules in
-    of_row _ _ _ _ _ _ same _ c.has_row.ensures c.if-not-has_row.false _ _ c.named_row.ensures.0 c.row_differs.ensures
+pub returns-in-None : goal.returns-in-None
+returns-in-None c =
+    let minute : to_z w32 (of_z w32 c.args.minute) ≡ c.args.minute = search rules in
+    no_row _ _ _ _ _ (rw minute at c.in-None.ensures)
