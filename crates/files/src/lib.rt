@@ -196,19 +196,26 @@ fn read_part<R: Read>(reader: &mut R, buf: &mut [u8], from: usize) -> Result<usi
     Err(Error::from(ErrorKind::Interrupted))
 }
 
-// Reads until the buffer is full or the input ends; how many bytes came.
-pub fn read_full<R: Read>(reader: &mut R, buf: &mut [u8]) -> Result<usize>
-    ensures { IfOk result (λ n. n ≤ length buf.new) }
+// Reads until the buffer is full, the input ends or a read fails; how many bytes came, and what failed.
+fn fill<R: Read>(reader: &mut R, buf: &mut [u8]) -> (usize, Option<Error>)
+    ensures { result.0 ≤ length buf.new }
 {
     let mut done = 0;
     while done < buf.len() {
-        let count = read_part(reader, buf, done)?;
-        if count == 0 {
-            break;
+        match read_part(reader, buf, done) {
+            Ok(0) => break,
+            Ok(count) => done += count,
+            Err(e) => return (done, Some(e)),
         }
-        done += count;
     }
-    Ok(done)
+    (done, None)
+}
+
+// Reads until the buffer is full, the input ends or a read fails; how many bytes came.
+pub fn read_full<R: Read>(reader: &mut R, buf: &mut [u8]) -> usize
+    ensures { result ≤ length buf.new }
+{
+    fill(reader, buf).0
 }
 
 // ---- a file
@@ -223,7 +230,10 @@ fn read_named(rt: &HostRuntime, name: &[u8], sheet: &mut [u8]) -> Result<usize>
     ensures { IfOk result (λ n. n ≤ length sheet.new) }
 {
     let mut file = open(rt, name)?;
-    read_full(&mut file, sheet)
+    match fill(&mut file, sheet) {
+        (count, None) => Ok(count),
+        (_, Some(e)) => Err(e),
+    }
 }
 
 // Says which file could not be read, and why.

@@ -9,6 +9,7 @@ use lib.IntN.{ℤ, pos, nat_abs}
 use mir.Syntax.{w32}
 use mir.Val.{to_z}
 use Rattle.std.proofs.Common.{Option, Some, None, Result, Ok, Err}
+use Rattle.std.specs.Result.{result_unwrap_or}
 use Rattle.entries.specs.Layout.{one_minute}
 use Rattle.rounding.proofs.Holds.{held_size}
 use Rattle.sheet_check.specs.Check.{check_of}
@@ -53,7 +54,7 @@ unfolding touches
 none-touches s l minute f = rw f
 
 -- a refusal touches nothing
-pub or_no : (r : Result Bool Refusal) → unwrap_or r false ≡ (touch_told r).touched
+pub or_no : (r : Result Bool Refusal) → result_unwrap_or r false ≡ (touch_told r).touched
 or_no (Ok t) = refl
 or_no (Err e) = refl
 

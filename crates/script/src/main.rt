@@ -299,6 +299,6 @@ fn run(rt: &HostRuntime, script: &[u8]) {
 fn main(rt: HostRuntime) {
     let mut space = files::sheet_room();
     let script: &mut [u8] = &mut space;
-    let n = files::read_full(&mut rt.stdin(), script).unwrap_or(0);
+    let n = files::read_full(&mut rt.stdin(), script);
     run(&rt, part(script, 0, n));
 }

@@ -171,7 +171,7 @@ fn load(rt: &HostRuntime, name: &[u8], sheet: &mut [u8]) -> usize
     ensures { result ≤ length sheet.new }
 {
     match files::open(rt, name) {
-        Ok(mut file) => files::read_full(&mut file, sheet).unwrap_or(0),
+        Ok(mut file) => files::read_full(&mut file, sheet),
         Err(_) => 0,
     }
 }

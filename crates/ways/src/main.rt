@@ -257,7 +257,7 @@ fn main(rt: HostRuntime) {
     let k = rt.arg(1, &mut path).unwrap_or(0);
     let mut space = files::sheet_room();
     if let Ok(mut file) = files::open(&rt, &path[..k]) {
-        let n = files::read_full(&mut file, &mut space).unwrap_or(0);
+        let n = files::read_full(&mut file, &mut space);
         run(&rt, &space, n);
     }
 }
