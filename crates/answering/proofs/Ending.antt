@@ -1,7 +1,6 @@
 -- The input's end: a line that is left is answered like any other. Assumes nothing.
 use Rattle.std.proofs.Common.{◌≡◌, ℕ, ◌-◌, ◌≤◌, List, [], ◌∷◌, length, take, refl, sym, ◌∙◌}
-use mathlib.Core.List.{append-nil}
-use lib.Seq.{length-take-le}
+use Rattle.std.proofs.lemmas.List.{append-nil, length-take-le}
 use Rattle.decimal.specs.Writing.{Wrote}
 use Rattle.decimal.proofs.Spelling.{then}
 use Rattle.stream.specs.Stream.{last_line}

@@ -43,11 +43,13 @@ pub struct Taken<S> {
 
 // A way to answer lines.
 pub trait Answers {
+    // What an answer may depend on besides its line.
     type State: Copy;
 
-    // Room for any line's answer, and for the closing text.
+    // The room that any line's answer needs.
     ghost room: { ℕ };
 
+    // The room that the closing text needs.
     ghost closing_room: { ℕ };
 
     // What a line is answered from a state, the state after it, and the closing text.
@@ -71,6 +73,7 @@ pub trait Answers {
         requires { at + closing_room ≤ length out.old }
         ensures { (result ≤ at + closing_room) × Wrote out.old out.new at result ((way self.now).close state) };
 
+    // A turn has room for both, since the output has room for an answer to each of more than 256 bytes.
     ghost closing_fits: { closing_room ≤ room };
 }
 
@@ -112,6 +115,7 @@ fn answer_lines<A: Answers>(
 }
 
 // Answers the lines that are held and have ended, and keeps the one that has not.
+#[tactic(auto, unfolding(stream::specs::Stream::kept_of))]
 pub fn answer_block<A: Answers>(
     by: &A,
     buffer: &mut [u8],

@@ -1,10 +1,11 @@
 -- "Batch." s is the sheet, points the pairs, old what the answers' memory held before. Latitude and longitude in 0.001″, x and y in 0.01 ft.
-use Rattle.std.specs.Prelude.{ℕ, zero, suc, ◌+◌, ◌*◌, ◌/◌, ◌%◌, List, [], ◌∷◌, ◌++◌, Bool, ◌&&◌, cond, ℤ, pos, length, get_or, drop, leb, eqb}
+use Rattle.std.specs.Prelude.{ℕ, zero, suc, ◌+◌, ◌*◌, ◌/◌, ◌%◌, List, [], ◌∷◌, ◌++◌, Bool, ◌&&◌, cond, ℤ, pos, length, get_or, drop, leb, eqb, Result, Ok, Err}
+use Rattle.refusals.specs.declared.Refusal.{Refusal}
+use Rattle.refusals.specs.Numbers.{number_of}
 use Rattle.refusals.specs.Ladder.{need, or_else, where_is}
 use Rattle.sheet_check.specs.Check.{check_of}
 use Rattle.forward.specs.Forward.{PlaneTold}
 use Rattle.convert.specs.Conversions.{geographic_to_plane}
-use Rattle.batch.specs.declared.Batched.{Batched}
 
 -- "Pairs of 32-bit latitude and longitude": how many, and point i of them.
 abbrev pub pairs : List ℤ → ℕ
@@ -34,8 +35,18 @@ answered s points (suc n) = answered s points n + one_if_answered (point_at s po
 unfoldable pub taken : ℕ → ℕ → Bool
 taken given room = eqb (given % 2) 0 && leb (given / 2) 4_096 && leb (3 * (given / 2)) room
 
+-- The answer, as it is told: "a number and the count of points with number 0".
+pub record BatchedTold : Type 0 where
+  pub number : ℕ
+  pub count : ℕ
+
 abbrev pub batched : ℕ → ℕ → BatchedTold
 batched number count = record { number = number; count = count }
+
+-- What code answers, as it is told.
+abbrev pub batch_told : Result ℕ Refusal → BatchedTold
+batch_told (Ok count) = batched 0 count
+batch_told (Err r) = batched (number_of r) 0
 
 -- "17 comes first, then the check's number; either [..] counts 0. Otherwise the answer's number is 0."
 unfoldable pub batch_of : List ℕ → List ℤ → List ℤ → BatchedTold

@@ -4,16 +4,10 @@
 
 ghost use Rattle.std.specs.Prelude.{◌≡◌, true, ◌∷◌, [], ◌+◌, ◌*◌, ◌≤◌, ◌<◌, pos, length};
 ghost use Rattle.std.proofs.lemmas.List.Edits.{sets};
-ghost use Rattle.batch.specs.Batch.{one_if_answered, point_at, words_of, pairs, answered, after_pairs, taken, batch_of, answers_of};
+ghost use Rattle.batch.specs.Batch.{one_if_answered, point_at, words_of, pairs, answered, after_pairs, taken, batch_told, batch_of, answers_of};
 
+use refusals::Refusal;
 use tables::Passed;
-
-// A batch's answer: its number, and the count of its points with number 0.
-#[derive(Clone, Copy)]
-pub struct Batched {
-    pub number: u32,
-    pub count: u32,
-}
 
 const MOST_POINTS: usize = 4_096;
 
@@ -46,8 +40,10 @@ fn answer_one(sheet: Passed, points: &[i32], answers: &mut [i32], i: usize) -> u
     requires { (2 * i + 1 < length points.now) × (3 * i + 3 ≤ length answers.old) }
     ensures { (result ≡ one_if_answered (point_at sheet.entry.bytes.now points.now i).number) × (result ≤ 1) × (answers.new ≡ sets answers.old (3 * i) (words_of (point_at sheet.entry.bytes.now points.now i))) }
 {
-    let r = forward::forward(sheet, points[2 * i], points[2 * i + 1]);
-    put(answers, 3 * i, r.number, r.x, r.y)
+    match forward::forward(sheet, points[2 * i], points[2 * i + 1]) {
+        Ok(r) => put(answers, 3 * i, 0, r.x, r.y),
+        Err(e) => put(answers, 3 * i, e.number(), 0, 0),
+    }
 }
 
 // Every point, answered in turn; how many have number 0.
@@ -63,25 +59,13 @@ fn answer_all(sheet: Passed, points: &[i32], answers: &mut [i32]) -> u32
     count
 }
 
-// A batch: 17, the check's number, or 0 with every point's number, x and y in the answers; a refusal writes nothing, and the answers' unused tail stays.
-pub fn batch(sheet: &[u8], points: &[i32], answers: &mut [i32]) -> Batched
-    ensures answer { result ≡ batch_of sheet.now points.now answers.old }
+// A batch: 17, the check's number, or how many points have number 0, with every point's number, x and y in the answers; a refusal writes nothing, and the answers' unused tail stays.
+pub fn batch(sheet: &[u8], points: &[i32], answers: &mut [i32]) -> Result<u32, Refusal>
+    ensures answer { batch_told result ≡ batch_of sheet.now points.now answers.old }
     ensures memory { answers.new ≡ answers_of sheet.now points.now answers.old }
 {
     if !is_taken(points.len(), answers.len()) {
-        return Batched {
-            number: 17,
-            count: 0,
-        };
+        return Err(Refusal::Batch);
     }
-    match tables::pass(sheet) {
-        Ok(sheet) => Batched {
-            number: 0,
-            count: answer_all(sheet, points, answers),
-        },
-        Err(verdict) => Batched {
-            number: verdict.number,
-            count: 0,
-        },
-    }
+    Ok(answer_all(tables::pass(sheet)?, points, answers))
 }

@@ -1,6 +1,6 @@
 -- The points program's way to answer lines gives the answers to each, and nothing behind them. Assumes nothing.
 use Rattle.std.proofs.Common.{◌≡◌, refl, ap, ◌∙◌, ℕ, List, [], ◌∷◌, ◌++◌}
-use mathlib.Core.List.{append-nil}
+use Rattle.std.proofs.lemmas.List.{append-nil}
 use Prim.{tt}
 use Rattle.lines.specs.Lines.{answer_text}
 use Rattle.stream.specs.Pieces.{answers, written}

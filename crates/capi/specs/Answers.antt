@@ -7,7 +7,7 @@ use Rattle.convergence.specs.Grid.{GridTold}
 use Rattle.touched.specs.Touched.{TouchTold}
 use Rattle.batch.specs.Batch.{BatchedTold}
 use Rattle.door.specs.declared.Point.{Point}
-use Rattle.door.specs.declared.Answer.{Answer}
+use Rattle.door.specs.Door.{Answer}
 use Rattle.door.specs.Door.{number_of, first_of, second_of, half_of}
 use Rattle.capi.specs.declared.CheckAnswer.{CheckAnswer}
 use Rattle.capi.specs.declared.PlaneAnswer.{PlaneAnswer}

@@ -9,6 +9,7 @@ use lib.Dec.{eqb}
 use Rattle.refusals.specs.Tests.{same_as}
 use Rattle.refusals.proofs.Ranges.{same_true, same_self}
 use Rattle.decimal.specs.Writing.{Wrote}
+use Rattle.std.proofs.Common.{Option}
 use Rattle.point_line.specs.declared.Line.{Line}
 use Rattle.lines.specs.declared.Values.{Values}
 use Rattle.lines.specs.Lines.{values_of}
@@ -28,7 +29,7 @@ pub wrote_none : (l : List ℕ) (at : ℕ) → Wrote l l at at []
 wrote_none l at = record { place = omega arith; bytes = refl }
 
 -- ---- on the two sheets
-module _ (s t : List ℕ) (l : Line) (v w : Values) (e : v ≡ values_of s l) (f : w ≡ values_of t l) (r : Bool) (q : r ≡ same_values v w) where
+module _ (s t : List ℕ) (l : Option Line) (v w : Values) (e : v ≡ values_of s l) (f : w ≡ values_of t l) (r : Bool) (q : r ≡ same_values v w) where
   pub changes_is : not r ≡ changes s t l
   unfolding changes
   changes_is = rw (q, e, f)

@@ -1,9 +1,9 @@
 // One line of the points program, asked of an old sheet and of a new one.
 #![tactic(auto)]
 
-ghost use Rattle.std.specs.Prelude.{◌≡◌, ◌+◌, ◌≤◌, length};
+ghost use Rattle.std.specs.Prelude.{◌≡◌, ◌+◌, ◌≤◌, length, is_some};
 ghost use Rattle.decimal.specs.Writing.{Wrote};
-ghost use Rattle.point_line.specs.PointLine.{is_form, line_of};
+ghost use Rattle.point_line.specs.PointLine.{line_of};
 ghost use Rattle.differing.specs.Differing.{differing_rows};
 ghost use Rattle.reached.specs.Reached.{reaches};
 ghost use Rattle.compared.specs.Compared.{same_values, changes, values_text, change_line, change_text, compared_text, change_room};
@@ -78,7 +78,7 @@ pub fn compare_line(
     at: usize,
 ) -> Compared
     requires { at + change_room ≤ length out.old }
-    ensures point { result.point ≡ is_form (line_of line.now).form }
+    ensures point { result.point ≡ is_some (line_of line.now) }
     ensures changed { result.changed ≡ changes old.entry.bytes.now new.entry.bytes.now (line_of line.now) }
     ensures reached { result.reached ≡ reaches old.entry.bytes.now new.entry.bytes.now (line_of line.now) (differing_rows old.entry.bytes.now new.entry.bytes.now) }
     ensures text { (result.next ≤ at + change_room) × Wrote out.old out.new at result.next (compared_text old.entry.bytes.now new.entry.bytes.now n (line_of line.now)) }
@@ -89,7 +89,7 @@ pub fn compare_line(
     let changed = !same_values(v, w);
     let next = put_where(changed, out, at, n, v, w);
     Compared {
-        point: point_line::is_form(l.form),
+        point: l.is_some(),
         changed,
         reached: reached::is_reached(old, new, l),
         next,

@@ -1,6 +1,6 @@
 -- The first fault of length, word 0, the entries and the end: numbers 1 to 5.
 use Prim.{Unit}
-use Rattle.std.specs.Prelude.{Bool, not, ◌&&◌, List, ◌≡◌, ℕ, ◌+◌, ◌*◌, ◌%◌, ◌≤◌, leb, eqb, length, Result, Ok, Err}
+use Rattle.std.specs.Prelude.{Bool, not, ◌&&◌, List, ◌≡◌, ℕ, ◌+◌, ◌*◌, ◌%◌, ◌≤◌, leb, eqb, length, Result, Ok, Err, Option, Some, None}
 use Rattle.words.specs.Words.{unsigned_at}
 use Rattle.refusals.specs.Ladder.{need, or_else}
 use Rattle.refusals.specs.Numbers.{number_of as refusal_number}
@@ -27,6 +27,11 @@ number_of v = v.number
 abbrev pub verdict_told : Result (Unit {0}) Refused → Verdict
 verdict_told (Ok u) = verdict 0 0 0
 verdict_told (Err r) = verdict (refusal_number r.refusal) r.kind r.row
+
+-- The same of what was refused, if anything was: number, kind, row.
+abbrev pub numbers_of : Option Refused → ℕ × ℕ × ℕ
+numbers_of None = (0, 0, 0)
+numbers_of (Some r) = (refusal_number r.refusal, r.kind, r.row)
 
 -- n is from least to most.
 unfoldable pub within : ℕ → ℕ → ℕ → Bool

@@ -7,7 +7,7 @@ ghost use Rattle.refusals.specs.Numbers.{number};
 ghost use Rattle.refusals.specs.Faults.{first_told, first_fault};
 ghost use Rattle.entries.specs.Layout.{HasContents, most_kinds, least_rows, most_rows, names_form, width_of};
 ghost use Rattle.entries.specs.Entries.{kind_at, start_at, rows_at, due_at, body_of};
-ghost use Rattle.contents.specs.Contents.{within, entry_fault, sized, ends, verdict_told, contents_by, contents_of, Placed};
+ghost use Rattle.contents.specs.Contents.{within, entry_fault, sized, ends, verdict_told, numbers_of, contents_by, contents_of, Placed};
 
 use entries::{Form, Place};
 use refusals::{Found, Refusal};
@@ -182,6 +182,16 @@ impl<'a> Table<'a> {
         let start = 4 * self.place.start;
         let end = start + 4 * (self.place.rows * entries::width_of(self.kind));
         &self.sheet[start..end]
+    }
+}
+
+// The check's number, kind and row: those of a refusal, and zeros where there is none.
+pub fn numbers(refused: Option<Refused>) -> (u32, usize, usize)
+    ensures { result ≡ numbers_of refused }
+{
+    match refused {
+        Some(r) => (r.refusal.number(), r.kind, r.row),
+        None => (0, 0, 0),
     }
 }
 

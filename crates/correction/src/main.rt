@@ -59,17 +59,15 @@ fn only_line(line: Line, more: usize) -> usize
 fn run_by(rt: &HostRuntime, sheet: &mut [u8], name: &[u8], input: &mut [u8], from: usize, to: usize)
     requires { (from ≤ to) × (to ≤ length input.old) × (256 < length input.old) }
 {
-    let line = files::read_line(rt, input, from, to);
-    if line.failed {
+    let Some(line) = files::read_line(rt, input, from, to) else {
         return;
-    }
+    };
     let mut rest = [0u8; 16];
-    let more = files::read_on(rt, &mut rest, 0);
-    if more.failed {
+    let Some(more) = files::read_on(rt, &mut rest, 0) else {
         return;
-    }
+    };
     let start = line.from;
-    let end = only_line(line, more.to);
+    let end = only_line(line, more);
     run(rt, sheet, name, &input[start..end]);
 }
 
@@ -78,7 +76,7 @@ fn put_name(name: &[u8], memory: &mut [u8]) -> usize
     requires { 256 ≤ length memory.old }
     ensures { (result ≡ min (length name.now) 256) × (memory.new ≡ take result name.now ++ drop result memory.old) × (result ≤ length memory.new) }
 {
-    let n = stream::least(name.len(), MOST_NAME + 1);
+    let n = name.len().min(MOST_NAME + 1);
     memory[0..n].copy_from_slice(&name[0..n]);
     n
 }
@@ -87,17 +85,15 @@ fn main(rt: HostRuntime) {
     let mut sheet = files::sheet_room();
     let mut input = [0u8; INPUT];
     let mut name = [0u8; 256];
-    let first = files::read_line(&rt, &mut input, 0, 0);
-    if first.failed {
+    let Some(first) = files::read_line(&rt, &mut input, 0, 0) else {
         return;
-    }
+    };
     let a = first.from;
     let b = first.end;
     let size = files::load(&rt, &input[a..b], &mut sheet);
-    let second = files::read_line(&rt, &mut input, first.next, first.to);
-    if second.failed {
+    let Some(second) = files::read_line(&rt, &mut input, first.next, first.to) else {
         return;
-    }
+    };
     let c = second.from;
     let d = second.end;
     let n = put_name(&input[c..d], &mut name);

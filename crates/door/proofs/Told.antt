@@ -10,8 +10,8 @@ use Rattle.convert.specs.Conversions.{geographic_to_plane, plane_to_geographic, 
 use Rattle.convert.proofs.Zeros.{Zeroed, plane_zeros, geographic_zeros, grid_zeros}
 use Rattle.door.specs.declared.Point.{Point}
 use Rattle.std.specs.Prelude.{Option, Some, None}
-use Rattle.door.specs.declared.Answer.{Answer}
-use Rattle.door.specs.declared.Answer.TheVariants.{Refused}
+use Rattle.door.specs.Door.{Answer}
+use Rattle.door.specs.Door.Answer.{Refused}
 use Rattle.counts.specs.Whole.{float, whole_of, value_of}
 use Rattle.counts.specs.Whole as whole
 use Rattle.door.specs.Door.{counts_of, answer_of, door_of, number_of, first_of, second_of, half_of, to_plane, to_geographic, to_grid}

@@ -7,8 +7,8 @@ use borrow.Author.Tests.{eq-eqb, ne_eqb}
 use Rattle.refusals.specs.Ladder.{need}
 use Rattle.rounding.proofs.Bits.{both-same}
 use Rattle.std.specs.Prelude.{Option, Some, None}
-use Rattle.door.specs.declared.Answer.{Answer}
-use Rattle.door.specs.declared.Answer.TheVariants.{Counts, Refused}
+use Rattle.door.specs.Door.{Answer}
+use Rattle.door.specs.Door.Answer.{Counts, Refused}
 use Rattle.counts.specs.Whole.{float, number_of, value_of}
 use Rattle.door.specs.Door.{both, answer_of, door_of}
 

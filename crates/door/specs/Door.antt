@@ -1,17 +1,28 @@
 -- "Tools' door." What the door answers to a point, by the definitions of the conversions in `convert`.
 -- s is the sheet, p the point.
-use Rattle.std.specs.Prelude.{Bool, false, List, ℕ, eqb, ℤ, pos, Option, Some, None, Float}
+use Rattle.std.specs.Prelude.{Bool, false, List, ℕ, eqb, ℤ, pos, Option, Some, None, Float, Result, Ok, Err}
 use Rattle.std.specs.Float.{binary64}
 use Rattle.std.specs.Float.Ieee.{div}
+use Rattle.refusals.specs.declared.Refusal.{Refusal}
+use Rattle.refusals.specs.Numbers.{number_of as refusal_number}
 use Rattle.refusals.specs.Ladder.{need}
 use Rattle.forward.specs.Forward.{PlaneTold}
 use Rattle.inverse.specs.Inverse.{GeographicTold}
 use Rattle.convergence.specs.Grid.{GridTold}
 use Rattle.convert.specs.Conversions.{geographic_to_plane, plane_to_geographic, convergence_and_scale}
 use Rattle.door.specs.declared.Point.{Point}
-use Rattle.door.specs.declared.Answer.{Answer}
-use Rattle.door.specs.declared.Answer.TheVariants.{Counts, Refused}
+use Rattle.door.specs.declared.TwoCounts.{TwoCounts}
 use Rattle.counts.specs.Whole.{float, whole_of}
+
+-- "and get two f64 counts or a refusal number", with whether some rounding on the way to the counts met a half.
+pub data Answer : Type 0 where
+  Counts : Float → Float → Bool → Answer
+  Refused : ℕ → Answer
+
+-- What code answers, as it is told.
+abbrev pub door_told : Result TwoCounts Refusal → Answer
+door_told (Ok c) = Counts c.first c.second c.half
+door_told (Err r) = Refused (refusal_number r)
 
 -- "Drawing tools hand over a point as two f64 counts": both floats have to be counts.
 abbrev pub both : Option ℤ → Option ℤ → Option (ℤ × ℤ)

@@ -1,7 +1,7 @@
 -- What the laws of the door say: an answer tells the conversion's number, values and mark.
 use Rattle.std.specs.Prelude.{◌≡◌, Bool, false, ℕ, ℤ, pos}
 use Rattle.door.specs.declared.Point.{Point}
-use Rattle.door.specs.declared.Answer.{Answer}
+use Rattle.door.specs.Door.{Answer}
 use Rattle.counts.specs.Whole.{float, whole_of, value_of}
 use Rattle.counts.specs.Whole as whole
 use Rattle.door.specs.Door.{number_of, first_of, second_of, half_of}

@@ -3,7 +3,10 @@
 #![tactic(auto)]
 
 ghost use Rattle.std.specs.Prelude.{◌≡◌};
-ghost use Rattle.door.specs.Door.{counts_of, answer_of, to_plane, to_geographic, to_grid, feet_of};
+ghost use Rattle.counts.specs.Whole.{float};
+ghost use Rattle.door.specs.Door.{counts_of, door_told, to_plane, to_geographic, to_grid, feet_of};
+
+use refusals::Refusal;
 
 // The tools' point: latitude and west longitude in 0.001″, or x and y in 0.01 ft, in this order.
 #[derive(Clone, Copy)]
@@ -12,12 +15,12 @@ pub struct Point {
     pub second: f64,
 }
 
-// What the tools get: two counts, in the order and the units that the function names, and whether some rounding on the way to them met a half; or a refusal number.
-// A count of zero is +0.
+// What the tools get: two counts, in the order and the units that the function names, and whether some rounding on the way to them met a half. A count of zero is +0.
 #[derive(Clone, Copy)]
-pub enum Answer {
-    Counts(f64, f64, bool),
-    Refused(u32),
+pub struct TwoCounts {
+    pub first: f64,
+    pub second: f64,
+    pub half: bool,
 }
 
 // Both of the point's floats as counts; none where one of the two is no count.
@@ -29,50 +32,51 @@ fn counts_of(p: Point) -> Option<(i32, i32)>
     Some((a, b))
 }
 
-// A conversion's number, its two values and whether it met a half, as the tools get them: the number where it is not 0, else the values as floats, and the mark.
-fn answer_of(number: u32, a: i32, b: i32, half: bool) -> Answer
-    ensures { result ≡ answer_of number a b half }
+// Two counts as the tools get them.
+fn two_counts(a: i32, b: i32, half: bool) -> TwoCounts
+    ensures { (result.first ≡ float a) × (result.second ≡ float b) × (result.half ≡ half) }
 {
-    if number != 0 {
-        return Answer::Refused(number);
+    TwoCounts {
+        first: a as f64,
+        second: b as f64,
+        half,
     }
-    Answer::Counts(a as f64, b as f64, half)
 }
 
 // Geographic to plane: of latitude and west longitude in 0.001″, x and y in 0.01 ft.
 // Refusals in order: 15, before the sheet is looked at; the check's number, 1 to 9; 10; 11.
-pub fn geographic_to_plane(sheet: &[u8], p: Point) -> Answer
-    ensures { result ≡ to_plane sheet.now p }
+pub fn geographic_to_plane(sheet: &[u8], p: Point) -> Result<TwoCounts, Refusal>
+    ensures { door_told result ≡ to_plane sheet.now p }
 {
     let Some((latitude, longitude)) = counts_of(p) else {
-        return Answer::Refused(15);
+        return Err(Refusal::Float);
     };
-    let r = convert::geographic_to_plane(sheet, latitude, longitude);
-    answer_of(r.number, r.x, r.y, r.half)
+    let r = convert::geographic_to_plane(sheet, latitude, longitude)?;
+    Ok(two_counts(r.x, r.y, r.half))
 }
 
 // Plane to geographic: of x and y in 0.01 ft, latitude and west longitude in 0.001″.
 // Refusals in order: 15, before the sheet is looked at; the check's number, 1 to 9; 12; 13; 14; 11.
-pub fn plane_to_geographic(sheet: &[u8], p: Point) -> Answer
-    ensures { result ≡ to_geographic sheet.now p }
+pub fn plane_to_geographic(sheet: &[u8], p: Point) -> Result<TwoCounts, Refusal>
+    ensures { door_told result ≡ to_geographic sheet.now p }
 {
     let Some((x, y)) = counts_of(p) else {
-        return Answer::Refused(15);
+        return Err(Refusal::Float);
     };
-    let r = convert::plane_to_geographic(sheet, x, y);
-    answer_of(r.number, r.latitude, r.longitude, r.half)
+    let r = convert::plane_to_geographic(sheet, x, y)?;
+    Ok(two_counts(r.latitude, r.longitude, r.half))
 }
 
 // Convergence and scale: of x and y in 0.01 ft, Δα in 0.1″ and k in 10⁻⁷.
 // Refusals in order: 15, before the sheet is looked at; the check's number, 1 to 9; 12; 13.
-pub fn convergence_and_scale(sheet: &[u8], p: Point) -> Answer
-    ensures { result ≡ to_grid sheet.now p }
+pub fn convergence_and_scale(sheet: &[u8], p: Point) -> Result<TwoCounts, Refusal>
+    ensures { door_told result ≡ to_grid sheet.now p }
 {
     let Some((x, y)) = counts_of(p) else {
-        return Answer::Refused(15);
+        return Err(Refusal::Float);
     };
-    let r = convert::convergence_and_scale(sheet, x, y);
-    answer_of(r.number, r.convergence, r.scale, r.half)
+    let r = convert::convergence_and_scale(sheet, x, y)?;
+    Ok(two_counts(r.convergence, r.scale, r.half))
 }
 
 // A count of 0.01 ft in feet, for any count: one f64 division by 100, rounded once. An f64 holds each count as it is.

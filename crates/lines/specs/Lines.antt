@@ -1,5 +1,5 @@
 -- What is printed for a line of the "Points program". A line is its bytes without the line feed; s is the sheet.
-use Rattle.std.specs.Prelude.{ℕ, List, [], ◌∷◌, ◌++◌, ℤ, pos}
+use Rattle.std.specs.Prelude.{ℕ, List, [], ◌∷◌, ◌++◌, ℤ, pos, Option, Some, None}
 use Rattle.refusals.specs.Ladder.{where_is}
 use Rattle.forward.specs.Forward.{PlaneTold}
 use Rattle.inverse.specs.Inverse.{GeographicTold}
@@ -7,7 +7,7 @@ use Rattle.convergence.specs.Grid.{GridTold}
 use Rattle.convert.specs.Conversions.{geographic_to_plane, plane_to_geographic, convergence_and_scale}
 use Rattle.decimal.specs.Writing.{size_text, number_text}
 use Rattle.point_line.specs.declared.Line.{Line}
-use Rattle.point_line.specs.PointLine.{line_of}
+use Rattle.point_line.specs.PointLine.{by_form, line_of}
 use Rattle.lines.specs.declared.Values.{Values}
 
 -- ---- what is printed
@@ -45,12 +45,13 @@ abbrev pub grid_values : GridTold → Values
 grid_values r = values r.number r.convergence r.scale
 
 -- G is geographic to plane, P plane to geographic, S convergence and scale.
-unfoldable pub values_of : List ℕ → Line → Values
-values_of s l =
-    where_is l.form 71 (plane_values (geographic_to_plane s l.first l.second))
-    (where_is l.form 80 (geographic_values (plane_to_geographic s l.first l.second))
-    (where_is l.form 83 (grid_values (convergence_and_scale s l.first l.second))
-    no_values))
+unfoldable pub values_of : List ℕ → Option Line → Values
+values_of s None = no_values
+values_of s (Some l) =
+    by_form l.form
+    (plane_values (geographic_to_plane s l.first l.second))
+    (geographic_values (plane_to_geographic s l.first l.second))
+    (grid_values (convergence_and_scale s l.first l.second))
 
 -- 18 stands alone; any other number has its two values after it.
 unfoldable pub text_of : Values → List ℕ

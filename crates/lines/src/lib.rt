@@ -2,14 +2,22 @@
 #![tactic(auto)]
 
 ghost use Rattle.std.specs.Prelude.{◌≡◌, ◌+◌, ◌≤◌, pos, length};
+ghost use Rattle.refusals.specs.Numbers.{number_of};
+ghost use Rattle.forward.specs.Forward.{plane_told};
+ghost use Rattle.inverse.specs.Inverse.{geographic_told};
+ghost use Rattle.convergence.specs.Grid.{grid_told};
 ghost use Rattle.decimal.specs.Writing.{size_text, number_text, Wrote};
-ghost use Rattle.lines.specs.Lines.{ended, answer_line, verdict_line, unknown_line, values, values_of, text_of, answer_text, line_room};
+ghost use Rattle.lines.specs.Lines.{ended, answer_line, verdict_line, unknown_line, values, plane_values, geographic_values, grid_values, values_of, text_of, answer_text, line_room};
 
-use point_line::{BLANK, CONVERGENCE, FORWARD, INVERSE, Line};
+use convergence::Grid;
+use forward::Plane;
+use inverse::Geographic;
+use point_line::{BLANK, Form, Line};
+use refusals::Refusal;
 use tables::Passed;
 
-// What a line is answered: a number and two values, zeros where the number refuses.
-#[derive(Clone, Copy)]
+// What a line is answered, as it is printed: a number and two values, zeros where the number refuses.
+#[derive(Clone, Copy, PartialEq, Eq)]
 pub struct Values {
     pub number: u32,
     pub first: i32,
@@ -24,12 +32,12 @@ const UNKNOWN: u32 = 18;
 // Room for any line that is written: three numbers of at most 21 bytes, with a byte after each.
 pub const LINE_ROOM: usize = 66;
 
-// A number that refuses, with zeros.
-fn refusal(number: u32) -> Values
-    ensures { result ≡ values number (pos 0) (pos 0) }
+// A refusal's number, with zeros.
+fn refusal(r: Refusal) -> Values
+    ensures { result ≡ values (number_of r) (pos 0) (pos 0) }
 {
     Values {
-        number,
+        number: r.number(),
         first: 0,
         second: 0,
     }
@@ -97,36 +105,63 @@ fn put_values(out: &mut [u8], at: usize, v: Values) -> usize
 
 // ---- what a line is answered
 
+impl From<Result<Plane, Refusal>> for Values {
+    ghost from_gives = { λ r v. v ≡ plane_values (plane_told r) };
+
+    fn from(r: Result<Plane, Refusal>) -> Values {
+        match r {
+            Ok(p) => Values {
+                number: 0,
+                first: p.x,
+                second: p.y,
+            },
+            Err(e) => refusal(e),
+        }
+    }
+}
+
+impl From<Result<Geographic, Refusal>> for Values {
+    ghost from_gives = { λ r v. v ≡ geographic_values (geographic_told r) };
+
+    fn from(r: Result<Geographic, Refusal>) -> Values {
+        match r {
+            Ok(g) => Values {
+                number: 0,
+                first: g.latitude,
+                second: g.longitude,
+            },
+            Err(e) => refusal(e),
+        }
+    }
+}
+
+impl From<Result<Grid, Refusal>> for Values {
+    ghost from_gives = { λ r v. v ≡ grid_values (grid_told r) };
+
+    fn from(r: Result<Grid, Refusal>) -> Values {
+        match r {
+            Ok(g) => Values {
+                number: 0,
+                first: g.convergence,
+                second: g.scale,
+            },
+            Err(e) => refusal(e),
+        }
+    }
+}
+
 // What the line is answered on a sheet known to pass.
-pub fn values_of(sheet: Passed, l: Line) -> Values
+pub fn values_of(sheet: Passed, l: Option<Line>) -> Values
     ensures { result ≡ values_of sheet.entry.bytes.now l }
 {
-    let form = l.form;
-    if form == FORWARD {
-        let r = forward::forward(sheet, l.first, l.second);
-        return Values {
-            number: r.number,
-            first: r.x,
-            second: r.y,
-        };
+    let Some(l) = l else {
+        return refusal(Refusal::Line);
+    };
+    match l.form {
+        Form::Forward => forward::forward(sheet, l.first, l.second).into(),
+        Form::Inverse => inverse::inverse(sheet, l.first, l.second).into(),
+        Form::Convergence => convergence::convergence(sheet, l.first, l.second).into(),
     }
-    if form == INVERSE {
-        let r = inverse::inverse(sheet, l.first, l.second);
-        return Values {
-            number: r.number,
-            first: r.latitude,
-            second: r.longitude,
-        };
-    }
-    if form == CONVERGENCE {
-        let r = convergence::convergence(sheet, l.first, l.second);
-        return Values {
-            number: r.number,
-            first: r.convergence,
-            second: r.scale,
-        };
-    }
-    refusal(UNKNOWN)
 }
 
 // The line's answer on a sheet known to pass, from `at` on; the place after it.

@@ -1,17 +1,23 @@
 -- What a line of the "Points program" asks. A line is its bytes without the line feed.
-use Rattle.std.specs.Prelude.{ℕ, Bool, ◌||◌, cond, List, eqb, ℤ, get_or, Option, Some, None, option_map, option_and_then}
+use Rattle.std.specs.Prelude.{ℕ, Bool, cond, List, eqb, ℤ, get_or, Option, Some, None, is_some, option_map, option_and_then}
 use Rattle.fields.specs.Fields.{field_at, last_at}
 use Rattle.point_line.specs.declared.Form.{Form}
 use Rattle.point_line.specs.declared.Form.TheVariants.{Forward, Inverse, Convergence}
 use Rattle.point_line.specs.declared.Line.{Line}
 
--- "`G latitude longitude`, `P x y` or `S x y`"
-unfoldable pub is_form : ℕ → Bool
-is_form b = eqb b 71 || eqb b 80 || eqb b 83
-
--- The form that a letter names.
+-- "`G latitude longitude`, `P x y` or `S x y`": the form that a letter names.
 unfoldable pub form_of : ℕ → Option Form
 form_of b = cond (eqb b 71) (Some Forward) (cond (eqb b 80) (Some Inverse) (cond (eqb b 83) (Some Convergence) None))
+
+-- What holds for a form: of G, of P, of S.
+abbrev pub by_form : {A : Type 0} → Form → A → A → A → A
+by_form Forward g p s = g
+by_form Inverse g p s = p
+by_form Convergence g p s = s
+
+-- A byte is a form's letter.
+abbrev pub is_form : ℕ → Bool
+is_form b = is_some (form_of b)
 
 abbrev pub asks : Form → ℤ → ℤ → Line
 asks form first second = record { form = form; first = first; second = second }

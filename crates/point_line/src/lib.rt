@@ -36,7 +36,6 @@ pub fn form_of(b: u8) -> Option<Form>
 }
 
 // Whether a byte is a form's letter.
-#[tactic(auto, unfolding(crate::specs::PointLine::is_form, crate::specs::PointLine::form_of))]
 pub fn is_form(b: u8) -> bool
     ensures { result ≡ is_form b }
 {

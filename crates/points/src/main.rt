@@ -15,23 +15,20 @@ const INPUT: usize = 16_640;
 const OUTPUT: usize = 1_098_240;
 
 // Prints the check's answer and, where it is 0, the answers to the lines behind the name, from `from` on; the bytes to `to` are read.
+#[tactic(auto, using(sheet_check::proofs::Known::sheet_long))]
 fn run(rt: &HostRuntime, sheet: &[u8], input: &mut [u8], from: usize, to: usize, out: &mut [u8])
     requires { (from ≤ to) × (to ≤ length input.old) × (most_kept < length input.old) × (line_room * length input.old ≤ length out.old) }
 {
-    let v = sheet_check::check(sheet);
-    let number = v.number;
-    let at = lines::put_verdict(out, 0, number, v.kind, v.row);
+    let checked = tables::pass(sheet);
+    let (number, kind, row) = contents::numbers(checked.err());
+    let at = lines::put_verdict(out, 0, number, kind, row);
     if !files::tell(rt, &out[0..at]) {
         return;
     }
-    if number != 0 {
-        return;
+    if let Ok(sheet) = checked {
+        let h = Held { from, to, state: () };
+        filter::answer_input(rt, &Points { sheet }, input, h, out);
     }
-    let points = Points {
-        sheet: tables::known(sheet, entries::places_of(sheet)),
-    };
-    let h = Held { from, to, state: () };
-    filter::answer_input(rt, &points, input, h, out);
 }
 
 // The output's memory. It is made apart because the proof of a function that holds so long an array would spell it out.

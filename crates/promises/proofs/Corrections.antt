@@ -50,7 +50,7 @@ use Rattle.door.specs.Door as door
 use Rattle.door.specs.Door.{counts_of, plane_answer, geographic_answer, grid_answer, to_plane, to_geographic, to_grid}
 use Rattle.door.proofs.Ways.{same_door, same-counts}
 use Rattle.door.proofs.Told.{tells_as, plane-tells, geographic-tells, grid-tells}
-use Rattle.door.specs.declared.Answer.{Answer}
+use Rattle.door.specs.Door.{Answer}
 use Rattle.counts.specs.Whole.{whole_of}
 use Rattle.promises.specs.Corrections.{Passes, Word, Words, put_in, FarLatitude, SameTold, Corrects, Afresh, Local, Untouched, Demand3, EachRow}
 use Rattle.corrected.proofs.WithRow.{body_long, rows_stay, step_stays, body_stays, latitude_body}

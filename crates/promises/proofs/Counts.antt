@@ -1,9 +1,8 @@
 -- `Counted` holds of every float. Assumes nothing.
 use mathlib.Core.Path.{◌≡◌, refl, ap}
-use lib.IntN.{pos}
+use lib.IntN.{ℤ, pos}
 use lib.Ieee.{Float}
-use Rattle.counts.specs.declared.Whole.{Whole}
-use Rattle.counts.specs.declared.Whole.TheVariants.{Count, No}
+use Rattle.std.specs.Prelude.{Option, Some, None}
 use Rattle.counts.specs.Whole.{whole_of, number_of, value_of}
 use Rattle.counts.proofs.Exactly.{exactly}
 use Rattle.promises.specs.Counts.{Counted}
@@ -15,6 +14,6 @@ counted x =
       no_count = λ none. refused (whole_of x) (λ n e. none n ((exactly x).only n e));
     }
   where
-    refused : (w : Whole) → ((n : _) → w ≡ Count n → ⊥) → (number_of w ≡ 15) × (value_of w ≡ pos 0)
-    refused (Count n) none = absurd (none n refl)
-    refused No none = (refl, refl)
+    refused : (w : Option ℤ) → ((n : ℤ) → w ≡ Some n → ⊥) → (number_of w ≡ 15) × (value_of w ≡ pos 0)
+    refused (Some n) none = absurd (none n refl)
+    refused None none = (refl, refl)

@@ -5,13 +5,17 @@ use seplogic.Ra.Ura.{Ura}
 use base.Logic.{SProp, ent, emp, via}
 use prog.Memory.{Memory}
 use prog.Routine.{Routine}
+use mir.Syntax.{Dict}
 use types.Logic.{Logic}
 use contract.Conj.{conj, conj_r}
 use contract.Lifetimes.{Lfts}
 use contract.Monad.{Fun, fact, fact_mono, guard-conj}
+use denote.RattleType.{RattleType}
+use denote.Param.Laws.{Laws, IsCopy}
 use denote.Triple.Clauses.{AtExit}
 use denote.Triple.Entry.{Args, Res}
 use borrow.Fn.Kinds.{Dens, res_t, ended_of}
+use Rattle.std.specs.declared.clone.Clone.{Ghosts as Copied}
 use Rattle.sheet_check.proofs.check.Kinds as check-kinds
 use Rattle.sheet_check.proofs.check.Reads as check-reads
 use Rattle.convert.proofs.geographic_to_plane.Kinds as forward-kinds
@@ -56,14 +60,11 @@ use Rattle.stream.proofs.line_end.Kinds as end-kinds
 use Rattle.stream.proofs.line_end.Reads as end_reads
 use Rattle.stream.proofs.keep.Kinds as keep-kinds
 use Rattle.stream.proofs.keep.Reads as keep-reads
-use Rattle.blocks.proofs.answer_block.Kinds as block-kinds
-use Rattle.blocks.proofs.answer_block.Reads as block_reads
-use Rattle.blocks.proofs.answer_last.Kinds as rest-kinds
-use Rattle.blocks.proofs.answer_last.Reads as rest-reads
-use Rattle.redone.proofs.compare_block.Kinds as redone-kinds
-use Rattle.redone.proofs.compare_block.Reads as redone-reads
-use Rattle.redone.proofs.compare_last.Kinds as counts-kinds
-use Rattle.redone.proofs.compare_last.Reads as counts-reads
+use Rattle.answering.specs.declared.Answers.{Ghosts}
+use Rattle.answering.proofs.answer_block.Kinds as block-kinds
+use Rattle.answering.proofs.answer_block.Reads as block_reads
+use Rattle.answering.proofs.answer_last.Kinds as rest-kinds
+use Rattle.answering.proofs.answer_last.Reads as rest-reads
 use Rattle.row_line.proofs.row_asked.Kinds as row-kinds
 use Rattle.row_line.proofs.row_asked.Reads as row_reads
 use Rattle.row_line.proofs.correct_by.Kinds as row-line-kinds
@@ -165,29 +166,19 @@ pub one-keep : (κs : Lfts 1) (given : Dens κs keep-kinds.ps) (r t : (res_t kee
     → keep-reads.Learnt κs given r x → keep-reads.Learnt κs given t y → (r ≡ t) × (x.0.now ≡ y.0.now)
 one-keep κs given r t x y p q = let e = p.0 ∙ sym q.0 in (e, p.1 ∙ rw e (sym q.1))
 
--- `blocks::answer_block`: one answer, and one content of the buffer and of the output's memory
-pub one_block : (κs : Lfts 3) (given : Dens κs block-kinds.ps) (r t : (res_t block-kinds.r κs).Denot) (x y : AtExit (ended_of 3 block-kinds.ps block-kinds.r) κs)
-    → block_reads.Learnt κs given r x → block_reads.Learnt κs given t y → (r ≡ t) × (x.1.1.0.now ≡ y.1.1.0.now) × (x.1.1.1.1.1.0.now ≡ y.1.1.1.1.1.0.now)
-one_block κs given r t x y p q =
-    let e = p.kept ∙ sym q.kept in
-    (rw (e, p.wrote.place ∙ sym q.wrote.place), p.memory ∙ rw e (sym q.memory), p.wrote.bytes ∙ sym q.wrote.bytes)
+-- The functions over the lines of an input, at any way to answer them: T is what answers, S its state.
+module _ (T S : RattleType) (L : Laws T) (M : Laws S) (C : IsCopy S) (g : Ghosts T.Denot S.Denot) (d : Dict) (h : Copied S.Denot) (e : Dict) where
+  -- `answering::answer_block`: one answer, and one content of the buffer and of the output's memory
+  pub one_block : (κs : Lfts 5) (given : Dens κs (block-kinds.ps T S L M C)) (r t : (res_t (block-kinds.r T S L M C) κs).Denot) (x y : AtExit (ended_of 5 (block-kinds.ps T S L M C) (block-kinds.r T S L M C)) κs)
+      → block_reads.Learnt T S L M C g d h e κs given r x → block_reads.Learnt T S L M C g d h e κs given t y → (r ≡ t) × (x.1.0.now ≡ y.1.0.now) × (x.1.1.1.0.now ≡ y.1.1.1.0.now)
+  one_block κs given r t x y p q =
+      let k = p.kept ∙ sym q.kept in
+      (rw (k, p.wrote.place ∙ sym q.wrote.place, p.state ∙ sym q.state), p.memory ∙ rw k (sym q.memory), p.wrote.bytes ∙ sym q.wrote.bytes)
 
--- `blocks::answer_last`: one answer, and one content of the output's memory
-pub one-rest : (κs : Lfts 3) (given : Dens κs rest-kinds.ps) (r t : (res_t rest-kinds.r κs).Denot) (x y : AtExit (ended_of 3 rest-kinds.ps rest-kinds.r) κs)
-    → rest-reads.Learnt κs given r x → rest-reads.Learnt κs given t y → (r ≡ t) × (x.1.1.1.1.0.now ≡ y.1.1.1.1.0.now)
-one-rest κs given r t x y p q = (p.1.place ∙ sym q.1.place, p.1.bytes ∙ sym q.1.bytes)
-
--- `redone::compare_block`: one answer, and one content of the buffer and of the output's memory
-pub one_redone : (κs : Lfts 4) (given : Dens κs redone-kinds.ps) (r t : (res_t redone-kinds.r κs).Denot) (x y : AtExit (ended_of 4 redone-kinds.ps redone-kinds.r) κs)
-    → redone-reads.Learnt κs given r x → redone-reads.Learnt κs given t y → (r ≡ t) × (x.1.1.1.0.now ≡ y.1.1.1.0.now) × (x.1.1.1.1.1.0.now ≡ y.1.1.1.1.1.0.now)
-one_redone κs given r t x y p q =
-    let e = p.kept ∙ sym q.kept in
-    (rw (e, p.wrote.place ∙ sym q.wrote.place, p.counted ∙ sym q.counted), p.memory ∙ rw e (sym q.memory), p.wrote.bytes ∙ sym q.wrote.bytes)
-
--- `redone::compare_last`: one answer, and one content of the output's memory
-pub one-counts : (κs : Lfts 4) (given : Dens κs counts-kinds.ps) (r t : (res_t counts-kinds.r κs).Denot) (x y : AtExit (ended_of 4 counts-kinds.ps counts-kinds.r) κs)
-    → counts-reads.Learnt κs given r x → counts-reads.Learnt κs given t y → (r ≡ t) × (x.1.1.1.1.1.1.0.now ≡ y.1.1.1.1.1.1.0.now)
-one-counts κs given r t x y p q = (rw (p.0 ∙ sym q.0, p.2 ∙ sym q.2, p.3.place ∙ sym q.3.place), p.3.bytes ∙ sym q.3.bytes)
+  -- `answering::answer_last`: one answer, and one content of the output's memory
+  pub one-rest : (κs : Lfts 5) (given : Dens κs (rest-kinds.ps T S L M C)) (r t : (res_t (rest-kinds.r T S L M C) κs).Denot) (x y : AtExit (ended_of 5 (rest-kinds.ps T S L M C) (rest-kinds.r T S L M C)) κs)
+      → rest-reads.Learnt T S L M C g d h e κs given r x → rest-reads.Learnt T S L M C g d h e κs given t y → (r ≡ t) × (x.1.1.1.1.0.now ≡ y.1.1.1.1.0.now)
+  one-rest κs given r t x y p q = (rw (p.0.0 ∙ sym q.0.0, p.1.1.place ∙ sym q.1.1.place, p.1.0 ∙ sym q.1.0), p.1.1.bytes ∙ sym q.1.1.bytes)
 
 -- `point_line::line_of`
 pub one_asked : (κs : Lfts 1) (given : Dens κs asked-kinds.ps) (r t : (res_t asked-kinds.r κs).Denot) (x y : AtExit (ended_of 1 asked-kinds.ps asked-kinds.r) κs)

@@ -6,8 +6,8 @@ use Prim.Native.Nat.{ℕ, ◌-◌}
 use native.Mathlib.Decide.{ℕ_discrete}
 use lib.IntN.{ℤ, pos}
 use Rattle.rounding.proofs.Tests.{never}
-use Rattle.refusals.specs.Ladder.{need, where_is}
-use Rattle.refusals.proofs.Ladders.{is, is_not}
+use Rattle.std.proofs.Common.{Option, Some, None}
+use Rattle.refusals.specs.Ladder.{need}
 use Rattle.entries.specs.Layout.{latitude}
 use Rattle.entries.specs.Entries.{rows_of, body_of}
 use Rattle.rules.specs.declared.Figures.{Figures}
@@ -17,10 +17,14 @@ use Rattle.latitude_rows.specs.Rows.{figures_at}
 use Rattle.sheet_check.specs.Check.{check_of}
 use Rattle.convert.specs.Conversions.{geographic_to_plane, plane_to_geographic, convergence_and_scale}
 use Rattle.minute_row.specs.MinuteRow.{from_first_minute, named_row, has_row}
-use Rattle.correct.specs.Correction.{correction_of}
+use Rattle.correct.specs.Correction.{correction_of, corrected_of}
 use Rattle.touched.specs.Touched.{touch, has_minute, row_named, geographic_touched, plane_touched}
+use Rattle.point_line.specs.declared.Form.{Form}
+use Rattle.point_line.specs.declared.Form.TheVariants.{Forward, Inverse, Convergence}
 use Rattle.point_line.specs.declared.Line.{Line}
-use Rattle.lines.specs.Lines.{plane_values, geographic_values, values_of}
+use Rattle.point_line.specs.PointLine.{by_form}
+use Rattle.lines.specs.declared.Values.{Values}
+use Rattle.lines.specs.Lines.{plane_values, geographic_values, grid_values, values_of}
 use Rattle.corrected.proofs.Beside.{Beside}
 use Rattle.corrected.proofs.AllSame.{forward_all, inverse_all}
 use Rattle.differing.specs.Differing.{same_figures, minute_at, row_differs, differing_rows, any_of, differs_at, is_differing}
@@ -39,23 +43,32 @@ or_false true b h = h
 
 -- ---- a line is answered alike where its form's conversion is
 values_stay : (s t : List ℕ) (l : Line)
-    → (l.form ≡ 71 → geographic_to_plane t l.first l.second ≡ geographic_to_plane s l.first l.second)
-    → ((l.form ≡ 71 → ⊥) → l.form ≡ 80 → plane_to_geographic t l.first l.second ≡ plane_to_geographic s l.first l.second)
+    → (l.form ≡ Forward → geographic_to_plane t l.first l.second ≡ geographic_to_plane s l.first l.second)
+    → (l.form ≡ Inverse → plane_to_geographic t l.first l.second ≡ plane_to_geographic s l.first l.second)
     → convergence_and_scale t l.first l.second ≡ convergence_and_scale s l.first l.second
-    → values_of t l ≡ values_of s l
-unfolding values_of where_is
-values_stay s t l g p c = pick (ℕ_discrete l.form 71) (ℕ_discrete l.form 80)
+    → values_of t (Some l) ≡ values_of s (Some l)
+unfolding values_of
+values_stay s t l g p c = pick l.form refl
   where
-    pick : Dec (l.form ≡ 71) → Dec (l.form ≡ 80) → values_of t l ≡ values_of s l
-    pick (yes e) d = sym (is l.form 71 _ _ _ e refl) ∙ ap plane_values (g e) ∙ is l.form 71 _ _ _ e refl
-    pick (no n) (yes e) =
-        sym (is_not l.form 71 _ _ _ n (is l.form 80 _ _ _ e refl)) ∙ ap geographic_values (p n e) ∙ is_not l.form 71 _ _ _ n (is l.form 80 _ _ _ e refl)
-    pick (no n) (no m) =
-        sym (is_not l.form 71 _ _ _ n (is_not l.form 80 _ _ _ m refl)) ∙ rw c (is_not l.form 71 _ _ _ n (is_not l.form 80 _ _ _ m refl))
+    of : List ℕ → Form → Values
+    of u f =
+        by_form f
+        (plane_values (geographic_to_plane u l.first l.second))
+        (geographic_values (plane_to_geographic u l.first l.second))
+        (grid_values (convergence_and_scale u l.first l.second))
 
-unchanged : (s t : List ℕ) (l : Line) → values_of t l ≡ values_of s l → changes s t l ≡ false
+    pick : (f : Form) → l.form ≡ f → of t f ≡ of s f
+    pick Forward e = ap plane_values (g e)
+    pick Inverse e = ap geographic_values (p e)
+    pick Convergence e = ap grid_values c
+
+unchanged : (s t : List ℕ) (l : Option Line) → values_of t l ≡ values_of s l → changes s t l ≡ false
 unfolding changes
 unchanged s t l e = rw (e, answers-same (values_of s l))
+
+none-unchanged : (s t : List ℕ) → changes s t None ≡ false
+unfolding values_of
+none-unchanged s t = unchanged s t None refl
 
 -- ---- after a correction that was accepted
 second : (a b : Bool) → a && b ≡ true → b ≡ true
@@ -107,23 +120,23 @@ module _ (s : List ℕ) (passes : Passes s) (minute : ℤ) (f : Figures) (accept
   grid-stays x y = rw (corrections.writes s passes minute f accepted) at ((corrections.locally s passes minute f accepted).grid x y)
 
   -- ---- the row differs, and does not touch the line
-  module _ (far : touches s l minute ≡ false) where
-    plane_far : l.form ≡ 71 → geographic_to_plane t l.first l.second ≡ geographic_to_plane s l.first l.second
+  module _ (far : touches s (Some l) minute ≡ false) where
+    plane_far : l.form ≡ Forward → geographic_to_plane t l.first l.second ≡ geographic_to_plane s l.first l.second
     unfolding touches
     plane_far e =
         let says = corrections.geographic-says s passes minute f accepted s ok has l.first l.second in
-        let no_touch : (geographic_touched s minute l.first l.second).touched ≡ false = is l.form 71 _ _ _ e refl ∙ far in
+        let no_touch : (geographic_touched s minute l.first l.second).touched ≡ false = rw e at far in
         rw (corrections.writes s passes minute f accepted) at ((corrections.untouched s passes minute f accepted).forward l.first l.second (says ∙ ap (touch 0) (sym (ap (λ a. a.touched) says) ∙ no_touch)))
 
-    earth_far : (l.form ≡ 71 → ⊥) → l.form ≡ 80 → plane_to_geographic t l.first l.second ≡ plane_to_geographic s l.first l.second
+    earth_far : l.form ≡ Inverse → plane_to_geographic t l.first l.second ≡ plane_to_geographic s l.first l.second
     unfolding touches
-    earth_far n e =
+    earth_far e =
         let says = corrections.plane-says s passes minute f accepted s ok has l.first l.second in
-        let no_touch : (plane_touched s minute l.first l.second).touched ≡ false = is_not l.form 71 _ _ _ n (is l.form 80 _ _ _ e refl) ∙ far in
+        let no_touch : (plane_touched s minute l.first l.second).touched ≡ false = rw e at far in
         rw (corrections.writes s passes minute f accepted) at ((corrections.untouched s passes minute f accepted).inverse l.first l.second (says ∙ ap (touch 0) (sym (ap (λ a. a.touched) says) ∙ no_touch)))
 
-    far_unchanged : changes s t l ≡ false
-    far_unchanged = unchanged s t l (values_stay s t l plane_far earth_far (grid-stays l.first l.second))
+    far_unchanged : changes s t (Some l) ≡ false
+    far_unchanged = unchanged s t (Some l) (values_stay s t l plane_far earth_far (grid-stays l.first l.second))
 
   -- ---- the row does not differ: nor does any
   module _ (stays : row_differs b c m r ≡ false) where
@@ -154,14 +167,14 @@ module _ (s : List ℕ) (passes : Passes s) (minute : ℤ) (f : Figures) (accept
           a = λ i h. ap (λ (g : Figures). g.a) (all_figures i);
         }
 
-    same_unchanged : changes s t l ≡ false
+    same_unchanged : changes s t (Some l) ≡ false
     same_unchanged =
-        unchanged s t l (values_stay s t l
+        unchanged s t (Some l) (values_stay s t l
         (λ e.
         corrections.plane_steps s passes minute f accepted t ok' l.first l.second
         ∙ forward_all s t all_beside l.first l.second
         ∙ sym (corrections.plane_steps s passes minute f accepted s ok l.first l.second))
-        (λ n e.
+        (λ e.
         corrections.earth_steps s passes minute f accepted t ok' l.first l.second
         ∙ inverse_all s t all_beside l.first l.second
         ∙ sym (corrections.earth_steps s passes minute f accepted s ok l.first l.second))
@@ -172,15 +185,16 @@ module _ (s : List ℕ) (passes : Passes s) (minute : ℤ) (f : Figures) (accept
   unfolding is_differing differs_at
   there_differs p = rw (has, p)
 
-  missed_none : changes s t l ≡ true → reaches s t l (differing_rows s t) ≡ true
+  missed_none : changes s t (Some l) ≡ true → reaches s t (Some l) (differing_rows s t) ≡ true
   unfolding reaches
-  missed_none changed = by_row (row_differs b c m r) refl (either_touches s t l minute) refl
+  missed_none changed = by_row (row_differs b c m r) refl (either_touches s t (Some l) minute) refl
     where
-      by_row : (d : Bool) → row_differs b c m r ≡ d → (e : Bool) → either_touches s t l minute ≡ e → any_of (either_touches s t l) (differing_rows s t) ≡ true
+      by_row : (d : Bool) → row_differs b c m r ≡ d → (e : Bool) → either_touches s t (Some l) minute ≡ e → any_of (either_touches s t (Some l)) (differing_rows s t) ≡ true
       by_row false p e q = never (sym (same_unchanged p) ∙ changed)
-      by_row true p false q = never (sym (far_unchanged (or_false (touches s l minute) (touches t l minute) q)) ∙ changed)
-      by_row true p true q = among s t ok (either_touches s t l) minute (there_differs p) q
+      by_row true p false q = never (sym (far_unchanged (or_false (touches s (Some l) minute) (touches t (Some l) minute) q)) ∙ changed)
+      by_row true p true q = among s t ok (either_touches s t (Some l)) minute (there_differs p) q
 
 pub none_missed : NoneMissed
-none_missed s passes minute f accepted l changed =
+none_missed s passes minute f accepted None changed = never (sym (none-unchanged s (corrected_of s minute f)) ∙ changed)
+none_missed s passes minute f accepted (Some l) changed =
     rw (corrections.writes s passes minute f accepted) (missed_none s passes minute f accepted l (rw (corrections.writes s passes minute f accepted) at changed))

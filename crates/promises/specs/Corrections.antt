@@ -21,7 +21,7 @@ use Rattle.batch.specs.Batch.{pairs, point_at, answered, after_pairs, taken, bat
 use Rattle.door.specs.declared.Point.{Point}
 use Rattle.counts.specs.Whole.{whole_of}
 use Rattle.counts.specs.Whole as counts
-use Rattle.door.specs.declared.Answer.{Answer}
+use Rattle.door.specs.Door.{Answer}
 use Rattle.door.specs.Door.{number_of, first_of, second_of, half_of, counts_of, door_of, plane_answer, geographic_answer, grid_answer, to_plane, to_geographic, to_grid}
 use Rattle.door.specs.Meaning.{Tells}
 

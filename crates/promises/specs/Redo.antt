@@ -1,5 +1,5 @@
 -- Of the redo program, which compares one line after another on the old sheet and on the corrected one: "Which of my four thousand points do I redo?".
-use Rattle.std.specs.Prelude.{◌≡◌, true, List, ℕ, ℤ}
+use Rattle.std.specs.Prelude.{◌≡◌, true, List, ℕ, ℤ, Option}
 use Rattle.rules.specs.declared.Figures.{Figures}
 use Rattle.correct.specs.Correction.{correction_of, corrected_of}
 use Rattle.point_line.specs.declared.Line.{Line}
@@ -13,4 +13,4 @@ use Rattle.promises.specs.Corrections.{Passes}
 abbrev pub NoneMissed : Type 0
 NoneMissed =
     (s : List ℕ) → Passes s → (minute : ℤ) (f : Figures) → correction_of s minute f ≡ 0
-    → (l : Line) → changes s (corrected_of s minute f) l ≡ true → reaches s (corrected_of s minute f) l (differing_rows s (corrected_of s minute f)) ≡ true
+    → (l : Option Line) → changes s (corrected_of s minute f) l ≡ true → reaches s (corrected_of s minute f) l (differing_rows s (corrected_of s minute f)) ≡ true

@@ -8,12 +8,13 @@ use native.Mathlib.Omega.{arith}
 use lib.IntN.{ℤ, pos, nat_abs}
 use mir.Syntax.{w32}
 use mir.Val.{to_z}
+use Rattle.std.proofs.Common.{Option, Some, None, Result, Ok, Err}
 use Rattle.entries.specs.Layout.{one_minute}
 use Rattle.rounding.proofs.Holds.{held_size}
-use Rattle.refusals.proofs.Ladders.{is, is_not}
 use Rattle.sheet_check.specs.Check.{check_of}
-use Rattle.touched.specs.Touched.{TouchTold}
-use Rattle.touched.specs.Touched.{geographic_touched, plane_touched}
+use Rattle.refusals.specs.declared.Refusal.{Refusal}
+use Rattle.touched.specs.Touched.{TouchTold, touch_told, geographic_touched, plane_touched}
+use Rattle.point_line.specs.declared.Form.TheVariants.{Forward, Inverse, Convergence}
 use Rattle.point_line.specs.declared.Line.{Line}
 use Rattle.differing.specs.Differing.{differing_rows, any_of, is_differing}
 use Rattle.differing.proofs.Among.{one_of_two}
@@ -25,31 +26,36 @@ pub minutes_most : (n k : ℕ) → n ≤ k * one_minute → n / one_minute ≤ k
 minutes_most n k h = omega (arith, div-add-mod' n one_minute)
 
 module _ (s : List ℕ) (l : Line) where
-  pub forward_lower : l.form ≡ 71 → (n : ℕ) → n ≡ nat_abs l.first → n / one_minute ≡ lower_minute s l
+  pub forward_lower : l.form ≡ Forward → (n : ℕ) → n ≡ nat_abs l.first → n / one_minute ≡ lower_minute s (Some l)
   unfolding lower_minute
-  forward_lower f n e = is l.form 71 _ _ _ f (rw e)
+  forward_lower f n e = rw (f, e)
 
-  pub inverse_lower : (l.form ≡ 71 → ⊥) → l.form ≡ 80 → (n : ℕ) (a b : ℤ) → a ≡ l.first → b ≡ l.second → n ≡ plane_minute s a b → n ≡ lower_minute s l
+  pub inverse_lower : l.form ≡ Inverse → (n : ℕ) (a b : ℤ) → a ≡ l.first → b ≡ l.second → n ≡ plane_minute s a b → n ≡ lower_minute s (Some l)
   unfolding lower_minute
-  inverse_lower n f m a b x y e = is_not l.form 71 _ _ _ n (is l.form 80 _ _ _ f (rw (e, x, y)))
+  inverse_lower f n a b x y e = rw (f, e, x, y)
 
-  pub none_lower : (l.form ≡ 71 → ⊥) → (l.form ≡ 80 → ⊥) → 0 ≡ lower_minute s l
+  pub none_lower : l.form ≡ Convergence → 0 ≡ lower_minute s (Some l)
   unfolding lower_minute
-  none_lower n m = is_not l.form 71 _ _ _ n (is_not l.form 80 _ _ _ m refl)
+  none_lower f = rw f
 
 -- ---- whether a correction may touch it
 module _ (s : List ℕ) (l : Line) (minute m a b : ℤ) (e : m ≡ minute) (x : a ≡ l.first) (y : b ≡ l.second) where
-  pub forward-touches : (r : TouchTold) → l.form ≡ 71 → r ≡ geographic_touched s m a b → r.touched ≡ touches s l minute
+  pub forward-touches : (r : TouchTold) → l.form ≡ Forward → r ≡ geographic_touched s m a b → r.touched ≡ touches s (Some l) minute
   unfolding touches
-  forward-touches r f h = is l.form 71 _ _ _ f (rw (h, e, x, y))
+  forward-touches r f h = rw (f, h, e, x, y)
 
-  pub inverse-touches : (r : TouchTold) → (l.form ≡ 71 → ⊥) → l.form ≡ 80 → r ≡ plane_touched s m a b → r.touched ≡ touches s l minute
+  pub inverse-touches : (r : TouchTold) → l.form ≡ Inverse → r ≡ plane_touched s m a b → r.touched ≡ touches s (Some l) minute
   unfolding touches
-  inverse-touches r n f h = is_not l.form 71 _ _ _ n (is l.form 80 _ _ _ f (rw (h, e, x, y)))
+  inverse-touches r f h = rw (f, h, e, x, y)
 
-pub none-touches : (s : List ℕ) (l : Line) (minute : ℤ) → (l.form ≡ 71 → ⊥) → (l.form ≡ 80 → ⊥) → false ≡ touches s l minute
+pub none-touches : (s : List ℕ) (l : Line) (minute : ℤ) → l.form ≡ Convergence → false ≡ touches s (Some l) minute
 unfolding touches
-none-touches s l minute n m = is_not l.form 71 _ _ _ n (is_not l.form 80 _ _ _ m refl)
+none-touches s l minute f = rw f
+
+-- a refusal touches nothing
+pub or_no : (r : Result Bool Refusal) → unwrap_or r false ≡ (touch_told r).touched
+or_no (Ok t) = refl
+or_no (Err e) = refl
 
 -- ---- where its row differs
 pub not-differing : (differs t : Bool) → differs ≡ false → false ≡ differs && t
@@ -59,7 +65,7 @@ pub where_differing : (differs t r : Bool) → differs ≡ true → r ≡ t → 
 where_differing differs t r h e = e ∙ rw h
 
 -- ---- the two minutes, on the sheet u; m is the lower
-pub at_two : (s t u : List ℕ) → (check_of s).number ≡ 0 → (check_of u).number ≡ 0 → (l : Line) (m : ℕ) → (m ≡ lower_minute u l) × (m ≤ 40_000)
+pub at_two : (s t u : List ℕ) → (check_of s).number ≡ 0 → (check_of u).number ≡ 0 → (l : Option Line) (m : ℕ) → (m ≡ lower_minute u l) × (m ≤ 40_000)
     → (d e a b : Bool) → d ≡ is_differing s t (to_z w32 m) → a ≡ d && touches u l (to_z w32 m) → e ≡ is_differing s t (to_z w32 (m + 1)) → b ≡ e && touches u l (to_z w32 (m + 1))
     → (a || b) ≡ any_of (touches u l) (differing_rows s t)
 at_two s t u ok own l m lower d e a b f g h k =
@@ -79,6 +85,12 @@ unfolding any_of
 any_either f g [] = refl
 any_either f g (m ∷ minutes) = or_swap (f m) (any_of f minutes) (g m) (any_of g minutes) ∙ ap (λ (r : Bool). (f m || g m) || r) (any_either f g minutes)
 
-pub on_either : (s t : List ℕ) (l : Line) (a b : Bool) → a ≡ any_of (touches s l) (differing_rows s t) → b ≡ any_of (touches t l) (differing_rows s t) → (a || b) ≡ reaches s t l (differing_rows s t)
+pub on_either : (s t : List ℕ) (l : Option Line) (a b : Bool) → a ≡ any_of (touches s l) (differing_rows s t) → b ≡ any_of (touches t l) (differing_rows s t) → (a || b) ≡ reaches s t l (differing_rows s t)
 unfolding reaches
 on_either s t l a b p q = rw (p, q) (any_either (touches s l) (touches t l) (differing_rows s t))
+
+-- a line of no known form is not touched
+pub none-reached : (s t : List ℕ) (minutes : List ℤ) → false ≡ reaches s t None minutes
+unfolding reaches any_of touches
+none-reached s t [] = refl
+none-reached s t (m ∷ minutes) = none-reached s t minutes

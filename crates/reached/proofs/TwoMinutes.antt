@@ -1,6 +1,6 @@
 -- On a sheet that passes no row touches a line but those of `lower_minute` and of the minute after it. Assumes nothing.
 use mathlib.Core.Path.{◌≡◌, refl, sym, ap, ◌∙◌}
-use mathlib.Core.Bool.{Bool, true, false, cond, ◌&&◌}
+use mathlib.Core.Bool.{Bool, true, false, ◌&&◌}
 use mathlib.Core.List.{List}
 use mathlib.Core.Logic.{◌⊎◌, inl, inr, ⊎_elim}
 use Prim.Native.Nat.{ℕ, zero, suc, ◌+◌, ◌-◌, ◌*◌, ◌/◌, ◌<◌, ◌≤◌}
@@ -9,14 +9,15 @@ use native.Mathlib.Nat.{div-add-mod', mod-lt, mul-div_cancel}
 use native.Mathlib.Numerals.{add-one}
 use native.Mathlib.Omega.{arith}
 use borrow.Author.Tests.{ltb-true}
-use lib.Dec.{eqb, lit<}
+use lib.Dec.{lit<}
 use lib.IntN.{ℤ, pos, nat_abs, ◌+ℤ◌, ◌-ℤ◌, ◌*ℤ◌, +ℤ_idr, -ℤ-+ℤ_cancel}
 use lib.Signed.{le_z, lt_z}
 use Rattle.rounding.proofs.Sizes.{pos_minus, sub_ℕ_le, sub_ℕ_lt, size_product}
 use Rattle.rounding.proofs.Bits.{both-same}
 use Rattle.rounding.proofs.Tests.{both, never}
 use Rattle.rounding.proofs.Order.{above_of, not_above_of, not_below_of, lt_z_le, lt_z-le_z, le_z_trans, heights_le}
-use Rattle.refusals.specs.Ladder.{need, where_is}
+use Rattle.std.proofs.Common.{Option, Some, None}
+use Rattle.refusals.specs.Ladder.{need}
 use Rattle.refusals.proofs.Ladders.{where_below_lem}
 use Rattle.rules.specs.Latitude.{least_rise, most_rise}
 use Rattle.entries.specs.Layout.{latitude, one_minute}
@@ -35,7 +36,10 @@ use Rattle.inverse.specs.Inverse.{reduced_northing, row_of}
 use Rattle.minute_row.specs.MinuteRow.{from_first_minute}
 use Rattle.minute_row.proofs.Place.{row_size, row_there}
 use Rattle.touched.specs.Touched.{touch, no_touch, has_minute, row_named, near_row, forward_touched, above_prior, below_next, inverse_touched, geographic_touched, plane_touched}
+use Rattle.point_line.specs.declared.Form.{Form}
+use Rattle.point_line.specs.declared.Form.TheVariants.{Forward, Inverse, Convergence}
 use Rattle.point_line.specs.declared.Line.{Line}
+use Rattle.point_line.specs.PointLine.{by_form}
 use Rattle.reached.specs.Reached.{touches, first_minute, plane_minute, lower_minute}
 
 -- ---- of tests
@@ -181,12 +185,13 @@ module _ (s : List ℕ) (ok : (check_of s).number ≡ 0) where
     some_below_it h = not_below_of z' (y0_of s 0) (rw read at h)
 
   -- ---- a line
-  pub only_two : (l : Line) (minute : ℤ) → touches s l minute ≡ true → (minute ≡ pos (lower_minute s l)) ⊎ (minute ≡ pos (lower_minute s l + 1))
-  unfolding touches lower_minute where_is
-  only_two l minute h = by_form (eqb l.form 71) (eqb l.form 80) h
+  pub only_two : (l : Option Line) (minute : ℤ) → touches s l minute ≡ true → (minute ≡ pos (lower_minute s l)) ⊎ (minute ≡ pos (lower_minute s l + 1))
+  unfolding touches lower_minute
+  only_two None minute h = never h
+  only_two (Some l) minute h = of_form l.form h
     where
-      by_form : (g p : Bool) → cond g (geographic_touched s minute l.first l.second).touched (cond p (plane_touched s minute l.first l.second).touched false) ≡ true
-          → (minute ≡ pos (cond g (nat_abs l.first / one_minute) (cond p (plane_minute s l.first l.second) 0))) ⊎ (minute ≡ pos (cond g (nat_abs l.first / one_minute) (cond p (plane_minute s l.first l.second) 0) + 1))
-      by_form true p h = geographic-two minute l.first l.second h
-      by_form false true h = plane-two minute l.first l.second h
-      by_form false false h = never h
+      of_form : (f : Form) → by_form f (geographic_touched s minute l.first l.second).touched (plane_touched s minute l.first l.second).touched false ≡ true
+          → (minute ≡ pos (by_form f (nat_abs l.first / one_minute) (plane_minute s l.first l.second) 0)) ⊎ (minute ≡ pos (by_form f (nat_abs l.first / one_minute) (plane_minute s l.first l.second) 0 + 1))
+      of_form Forward h = geographic-two minute l.first l.second h
+      of_form Inverse h = plane-two minute l.first l.second h
+      of_form Convergence h = never h

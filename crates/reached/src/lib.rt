@@ -8,7 +8,7 @@ ghost use Rattle.inverse.specs.Inverse.{row_of};
 ghost use Rattle.differing.specs.Differing.{differing_rows, any_of};
 ghost use Rattle.reached.specs.Reached.{touches, reaches, first_minute, plane_minute, lower_minute};
 
-use point_line::{FORWARD, INVERSE, Line};
+use point_line::{Form, Line};
 use tables::Passed;
 
 // ---- the lower of the two minutes
@@ -48,37 +48,35 @@ fn plane_minute(sheet: Passed, x: i32, y: i32) -> u64
 
 // The lower of the minutes whose rows may touch the line.
 fn lower_minute(sheet: Passed, l: Line) -> u64
-    ensures { (result ≡ lower_minute sheet.entry.bytes.now l) × (result ≤ 40_000) }
+    ensures { (result ≡ lower_minute sheet.entry.bytes.now (Some l)) × (result ≤ 40_000) }
 {
-    let form = l.form;
-    if form == FORWARD {
-        return rounding::size(l.first as i64) / entries::ONE_MINUTE;
+    match l.form {
+        Form::Forward => rounding::size(l.first as i64) / entries::ONE_MINUTE,
+        Form::Inverse => plane_minute(sheet, l.first, l.second),
+        Form::Convergence => 0,
     }
-    if form == INVERSE {
-        return plane_minute(sheet, l.first, l.second);
-    }
-    0
 }
 
 // ---- whether the line is touched
 
 // Whether a correction of the minute's row may change what the sheet answers the line.
 fn is_touched(sheet: Passed, l: Line, minute: i32) -> bool
-    ensures { result ≡ touches sheet.entry.bytes.now l minute }
+    ensures { result ≡ touches sheet.entry.bytes.now (Some l) minute }
 {
-    let form = l.form;
-    if form == FORWARD {
-        return touched::forward_touched(sheet, minute, l.first, l.second).touched;
+    match l.form {
+        Form::Forward => touched::forward_touched(sheet, minute, l.first, l.second).unwrap_or(
+            false,
+        ),
+        Form::Inverse => touched::inverse_touched(sheet, minute, l.first, l.second).unwrap_or(
+            false,
+        ),
+        Form::Convergence => false,
     }
-    if form == INVERSE {
-        return touched::inverse_touched(sheet, minute, l.first, l.second).touched;
-    }
-    false
 }
 
 // The same where the minute's row differs, else no.
 fn is_touched_where(differs: bool, sheet: Passed, l: Line, minute: i32) -> bool
-    ensures { result ≡ differs && touches sheet.entry.bytes.now l minute }
+    ensures { result ≡ differs && touches sheet.entry.bytes.now (Some l) minute }
 {
     if !differs {
         return false;
@@ -88,7 +86,7 @@ fn is_touched_where(differs: bool, sheet: Passed, l: Line, minute: i32) -> bool
 
 // Whether some of the rows in which the two sheets differ may change what the sheet answers the line.
 fn is_reached_on(old: Passed, new: Passed, sheet: Passed, l: Line) -> bool
-    ensures { result ≡ any_of (touches sheet.entry.bytes.now l) (differing_rows old.entry.bytes.now new.entry.bytes.now) }
+    ensures { result ≡ any_of (touches sheet.entry.bytes.now (Some l)) (differing_rows old.entry.bytes.now new.entry.bytes.now) }
 {
     let m = lower_minute(sheet, l);
     let low = m as i32;
@@ -97,9 +95,12 @@ fn is_reached_on(old: Passed, new: Passed, sheet: Passed, l: Line) -> bool
         | is_touched_where(differing::differs_at(old, new, high), sheet, l, high)
 }
 
-// Whether some of the rows in which the two sheets differ may touch the line, on the one or the other.
-pub fn is_reached(old: Passed, new: Passed, l: Line) -> bool
+// Whether some of the rows in which the two sheets differ may touch the line, on the one or the other. One of no known form is not touched.
+pub fn is_reached(old: Passed, new: Passed, l: Option<Line>) -> bool
     ensures { result ≡ reaches old.entry.bytes.now new.entry.bytes.now l (differing_rows old.entry.bytes.now new.entry.bytes.now) }
 {
-    is_reached_on(old, new, old, l) | is_reached_on(old, new, new, l)
+    match l {
+        Some(l) => is_reached_on(old, new, old, l) | is_reached_on(old, new, new, l),
+        None => false,
+    }
 }

@@ -4,7 +4,6 @@
 #![tactic(auto)]
 
 ghost use Rattle.std.specs.Prelude.{◌≡◌, ◌*◌, ◌≤◌, ◌<◌, length};
-ghost use Rattle.sheet_check.specs.Check.{check_of};
 ghost use Rattle.compared.specs.Compared.{change_room};
 ghost use Rattle.stream.specs.Stream.{most_kept};
 
@@ -43,35 +42,25 @@ fn less(a: u64, b: u64) -> u64 {
 
 // ---- the sheets
 
-// Compares the lines from `from` on, of which the bytes to `to` are read, on two sheets known to pass.
+// Compares the lines from `from` on, of which the bytes to `to` are read, on two sheets that pass.
 fn compare(
     rt: &HostRuntime,
-    old: &[u8],
-    new: &[u8],
+    sheets: &Comparing,
     input: &mut [u8],
     from: usize,
     to: usize,
     out: &mut [u8],
 )
-    requires { ((check_of old.now).number ≡ 0) × ((check_of new.now).number ≡ 0) × (from ≤ to) × (to ≤ length input.old) × (most_kept < length input.old) × (change_room * length input.old ≤ length out.old) }
+    requires { (from ≤ to) × (to ≤ length input.old) × (most_kept < length input.old) × (change_room * length input.old ≤ length out.old) }
 {
-    let sheets = Comparing {
-        old: tables::known(old, entries::places_of(old)),
-        new: tables::known(new, entries::places_of(new)),
-    };
-    let state = Tally {
-        lines: 0,
-        points: 0,
-        changed: 0,
-        reached: 0,
-        stray: 0,
-    };
+    let state = Tally::default();
     let h = Held { from, to, state };
-    let tally = filter::answer_input(rt, &sheets, input, h, out);
+    let tally = filter::answer_input(rt, sheets, input, h, out);
     say_stray(rt, tally);
 }
 
 // Prints the check's answer for each sheet and, where both are 0, compares the lines from `from` on.
+#[tactic(auto, using(sheet_check::proofs::Known::sheet_long))]
 fn run(
     rt: &HostRuntime,
     old: &[u8],
@@ -83,22 +72,18 @@ fn run(
 )
     requires { (from ≤ to) × (to ≤ length input.old) × (most_kept < length input.old) × (change_room * length input.old ≤ length out.old) }
 {
-    let v = sheet_check::check(old);
-    let number = v.number;
-    let i = lines::put_verdict(out, 0, number, v.kind, v.row);
-    let w = sheet_check::check(new);
-    let other = w.number;
-    let at = lines::put_verdict(out, i, other, w.kind, w.row);
+    let first = tables::pass(old);
+    let (number, kind, row) = contents::numbers(first.err());
+    let i = lines::put_verdict(out, 0, number, kind, row);
+    let second = tables::pass(new);
+    let (number, kind, row) = contents::numbers(second.err());
+    let at = lines::put_verdict(out, i, number, kind, row);
     if !files::tell(rt, &out[0..at]) {
         return;
     }
-    if number != 0 {
-        return;
+    if let (Ok(old), Ok(new)) = (first, second) {
+        compare(rt, &Comparing { old, new }, input, from, to, out);
     }
-    if other != 0 {
-        return;
-    }
-    compare(rt, old, new, input, from, to, out);
 }
 
 // The output's memory. It is made apart because the proof of a function that holds so long an array would spell it out.

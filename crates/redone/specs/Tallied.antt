@@ -1,9 +1,8 @@
 -- The counts of the redo program. s is the old sheet, t the new one; a is the tally so far, l what a line asks.
-use Rattle.std.specs.Prelude.{ℕ, ◌+◌, Bool, cond, List, ◌++◌}
+use Rattle.std.specs.Prelude.{ℕ, ◌+◌, Bool, cond, List, ◌++◌, Option, is_some}
 use Rattle.refusals.specs.Ladder.{where_is}
 use Rattle.decimal.specs.Writing.{size_text}
 use Rattle.point_line.specs.declared.Line.{Line}
-use Rattle.point_line.specs.PointLine.{is_form}
 use Rattle.lines.specs.Lines.{ended}
 use Rattle.differing.specs.Differing.{differing_rows}
 use Rattle.reached.specs.Reached.{reaches}
@@ -23,14 +22,14 @@ unfoldable pub stray_after : Bool → ℕ → ℕ → ℕ
 stray_after known stray n = cond known stray (where_is stray 0 n stray)
 
 -- The tally with one line more: how many lines there were, how many were points, changed their answer and may be touched, and the first stray one.
-unfoldable pub tallied : List ℕ → List ℕ → Tally → Line → Tally
+unfoldable pub tallied : List ℕ → List ℕ → Tally → Option Line → Tally
 tallied s t a l =
     record {
       lines = up a.lines;
-      points = up_where (is_form l.form) a.points;
+      points = up_where (is_some l) a.points;
       changed = up_where (changes s t l) a.changed;
       reached = up_where (reaches s t l (differing_rows s t)) a.reached;
-      stray = stray_after (is_form l.form) a.stray (up a.lines);
+      stray = stray_after (is_some l) a.stray (up a.lines);
     }
 
 abbrev pub no_tally : Tally

@@ -13,7 +13,7 @@ use point_line::BLANK;
 use tables::Passed;
 
 // The number of lines so far, how many of them were points, changed their answer and may be touched, and the number of the first line of no known form, 0 where there is none.
-#[derive(Clone, Copy)]
+#[derive(Clone, Copy, Default)]
 pub struct Tally {
     pub lines: u64,
     pub points: u64,
@@ -32,6 +32,7 @@ pub struct Comparing<'a> {
 // ---- counting
 
 // One more, to the most that 64 bits hold, which no run reaches.
+#[tactic(auto, unfolding(crate::specs::Tallied::up, refusals::specs::Ladder::where_is))]
 fn up(n: u64) -> u64
     ensures { result ≡ up n }
 {
@@ -42,6 +43,7 @@ fn up(n: u64) -> u64
 }
 
 // One more where it is so.
+#[tactic(auto, unfolding(crate::specs::Tallied::up_where))]
 fn up_where(more: bool, n: u64) -> u64
     ensures { result ≡ up_where more n }
 {
@@ -52,6 +54,7 @@ fn up_where(more: bool, n: u64) -> u64
 }
 
 // The number of the first line of no known form, of those so far and line n.
+#[tactic(auto, unfolding(crate::specs::Tallied::stray_after, refusals::specs::Ladder::where_is))]
 fn stray_after(known: bool, stray: u64, n: u64) -> u64
     ensures { result ≡ stray_after known stray n }
 {
@@ -86,6 +89,7 @@ impl<'a> Answers for Comparing<'a> {
     ghost way = { λ c. comparing c.old.bytes.now c.new.bytes.now };
 
     // The line's number and both answers where they differ, and the tally with it.
+    #[tactic(auto, unfolding(crate::specs::Tallied::tallied))]
     fn answer(&self, state: Tally, line: &[u8], out: &mut [u8], at: usize) -> Next<Tally> {
         let lines = up(state.lines);
         let r = compared::compare_line(self.old, self.new, line, lines, out, at);

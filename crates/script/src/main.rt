@@ -14,6 +14,7 @@
 use contents::Verdict;
 use point_line::{Form, Line};
 use std::io::Print;
+use stream::LINE_FEED;
 use touched::Touch;
 
 // ---- printing
@@ -32,10 +33,7 @@ fn size(z: i32) -> u64 {
 }
 
 fn print_signed(rt: &HostRuntime, z: i32) {
-    if z < 0 {
-        print(rt, b"-");
-    }
-    print_size(rt, size(z));
+    let _ = rt.print(z);
 }
 
 // An answer: number and two values, each after a blank, and the word half if some rounding met one.
@@ -72,38 +70,19 @@ fn print_touch(rt: &HostRuntime, t: Touch) {
 
 // The bytes from `from` up to `to`; none where they are not all there.
 fn part(s: &[u8], from: usize, to: usize) -> &[u8] {
-    if from <= to {
-        if to <= s.len() {
-            &s[from..to]
-        } else {
-            &s[0..0]
-        }
-    } else {
-        &s[0..0]
-    }
+    s.get(from..to).unwrap_or(&[])
 }
 
 // Puts the bytes at the start of room, as far as it goes, and answers how many they are.
 fn copy(bytes: &[u8], room: &mut [u8]) -> usize {
-    let mut k = 0;
-    while k < bytes.len() && k < room.len() {
-        room[k] = bytes[k];
-        k += 1;
-    }
-    k
+    let n = bytes.len().min(room.len());
+    room[0..n].copy_from_slice(&bytes[0..n]);
+    n
 }
 
 // In how many places the bytes differ.
 fn differing(before: &[u8], after: &[u8]) -> usize {
-    let mut count = 0;
-    let mut k = 0;
-    while k < before.len() && k < after.len() {
-        if before[k] != after[k] {
-            count += 1;
-        }
-        k += 1;
-    }
-    count
+    before.iter().zip(after).filter(|(b, a)| b != a).count()
 }
 
 // ---- the list's lines
@@ -168,15 +147,10 @@ fn ask_each(
     corrected: bool,
     minute: i32,
 ) {
-    let n = list.len();
-    let mut at = 0;
-    while at < n {
-        let end = stream::line_end(list, at, n);
-        let line = part(list, at, end);
+    for line in list.split(|b| *b == LINE_FEED) {
         if point_line::is_form(decimal::byte_at(line, 0)) {
             ask(rt, line, before, after, corrected, minute);
         }
-        at = end + 1;
     }
 }
 
@@ -325,6 +299,6 @@ fn run(rt: &HostRuntime, script: &[u8]) {
 fn main(rt: HostRuntime) {
     let mut space = files::sheet_room();
     let script: &mut [u8] = &mut space;
-    let n = files::read_full(&mut rt.stdin(), script);
+    let n = files::read_full(&mut rt.stdin(), script).unwrap_or(0);
     run(&rt, part(script, 0, n));
 }

@@ -10,6 +10,7 @@ ghost use Rattle.entries.specs.Entries.{Within};
 ghost use Rattle.tables.specs.Figures.{InTable};
 ghost use Rattle.extent.specs.Extent.{latitude_known, longitude_known, northing_known};
 
+use lines::Values;
 use reading::At;
 use std::io::Print;
 use std::rt::Env;
@@ -38,16 +39,10 @@ fn print_size(rt: &HostRuntime, name: &[u8], n: u64) {
     let _ = rt.print(n);
 }
 
-// A name and a figure. No figure is the least number, which has no size.
+// A name and a figure.
 fn print_figure(rt: &HostRuntime, name: &[u8], z: i64) {
     print(rt, name);
-    if z < -9_223_372_036_854_775_807 {
-        return;
-    }
-    if z < 0 {
-        print(rt, b"-");
-    }
-    let _ = rt.print(rounding::size(z));
+    let _ = rt.print(z);
 }
 
 // Two numbers, each after a blank.
@@ -57,19 +52,11 @@ fn print_pair(rt: &HostRuntime, first: i32, second: i32) {
 }
 
 // A line, and its answer: letter and two numbers; number and two values; a line feed.
-fn print_line(
-    rt: &HostRuntime,
-    letter: &[u8],
-    first: i32,
-    second: i32,
-    number: u32,
-    third: i32,
-    fourth: i32,
-) {
+fn print_line(rt: &HostRuntime, letter: &[u8], first: i32, second: i32, answer: Values) {
     print(rt, letter);
     print_pair(rt, first, second);
-    print_size(rt, b": ", number as u64);
-    print_pair(rt, third, fourth);
+    print_size(rt, b": ", answer.number as u64);
+    print_pair(rt, answer.first, answer.second);
     print(rt, b"\n");
 }
 
@@ -111,8 +98,8 @@ fn show_point(rt: &HostRuntime, sheet: Passed, latitude: i32, longitude: i32)
 // A station forward, with the figures on the way.
 fn forward(rt: &HostRuntime, sheet: Passed, latitude: i32, longitude: i32)
 {
-    let r = forward::forward(sheet, latitude, longitude);
-    print_line(rt, b"G", latitude, longitude, r.number, r.x, r.y);
+    let answer = forward::forward(sheet, latitude, longitude).into();
+    print_line(rt, b"G", latitude, longitude, answer);
     if !extent::latitude_known(sheet, latitude) {
         return;
     }
@@ -141,8 +128,8 @@ fn show_reduction(rt: &HostRuntime, sheet: Passed, x: u64, y: i32)
 // A station back, with the figures on the way.
 fn back(rt: &HostRuntime, sheet: Passed, x: i32, y: i32)
 {
-    let r = inverse::inverse(sheet, x, y);
-    print_line(rt, b"P", x, y, r.number, r.latitude, r.longitude);
+    let answer = inverse::inverse(sheet, x, y).into();
+    print_line(rt, b"P", x, y, answer);
     let xp = extent::x_prime(sheet, x);
     if !extent::easting_known(sheet, xp) {
         return;
@@ -158,25 +145,15 @@ fn station(rt: &HostRuntime, sheet: Passed, point: [i32; 4])
 {
     forward(rt, sheet, point[0], point[1]);
     back(rt, sheet, point[2], point[3]);
-    let r = convergence::convergence(sheet, point[2], point[3]);
-    print_line(
-        rt,
-        b"S",
-        point[2],
-        point[3],
-        r.number,
-        r.convergence,
-        r.scale,
-    );
+    let answer = convergence::convergence(sheet, point[2], point[3]).into();
+    print_line(rt, b"S", point[2], point[3], answer);
 }
 
 // Every station of a table.
 fn station_each(rt: &HostRuntime, sheet: Passed, points: &[[i32; 4]])
 {
-    let mut k = 0;
-    while k < points.len() {
-        station(rt, sheet, points[k]);
-        k += 1;
+    for point in points {
+        station(rt, sheet, *point);
     }
 }
 
@@ -194,7 +171,7 @@ fn load(rt: &HostRuntime, name: &[u8], sheet: &mut [u8]) -> usize
     ensures { result ≤ length sheet.new }
 {
     match files::open(rt, name) {
-        Ok(mut file) => files::read_full(&mut file, sheet),
+        Ok(mut file) => files::read_full(&mut file, sheet).unwrap_or(0),
         Err(_) => 0,
     }
 }

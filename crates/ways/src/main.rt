@@ -43,8 +43,7 @@ const PAIRS: [[f64; 2]; 13] = [
 const FEET: [i32; 5] = [12_413_141, -1, 0, 2_147_483_647, -2_147_483_648];
 
 fn put(rt: &HostRuntime, b: u8) {
-    let text = [b];
-    let _ = Print::write_all(rt, &text);
+    let _ = Print::write_all(rt, &[b]);
 }
 
 // Numbers, each after a blank.
@@ -54,12 +53,8 @@ fn put_size(rt: &HostRuntime, n: u64) {
 }
 
 fn put_signed(rt: &HostRuntime, z: i32) {
-    let wide = z as i64;
     put(rt, b' ');
-    if wide < 0 {
-        put(rt, b'-');
-    }
-    let _ = rt.print(rounding::size(wide));
+    let _ = rt.print(z);
 }
 
 // A float; a NaN has no bits here.
@@ -81,10 +76,8 @@ fn put_float(rt: &HostRuntime, x: f64) {
 
 // Words, and a line feed.
 fn put_words(rt: &HostRuntime, words: &[i32]) {
-    let mut k = 0;
-    while k < words.len() {
-        put_signed(rt, words[k]);
-        k += 1;
+    for word in words {
+        put_signed(rt, *word);
     }
     put(rt, b'\n');
 }
@@ -107,13 +100,11 @@ fn put_entry(rt: &HostRuntime, entry: Option<Entry>) {
 
 // Entries 0 to 6, the last past the end.
 fn read_each(rt: &HostRuntime, sheet: &[u8]) {
-    let mut e = 0;
-    while e < 7 {
+    for e in 0..7 {
         put(rt, b'R');
         put_size(rt, sheet.len() as u64);
         put_size(rt, e as u64);
         put_entry(rt, reader::read_entry(sheet, e));
-        e += 1;
     }
 }
 
@@ -205,18 +196,15 @@ fn ask(rt: &HostRuntime, sheet: &[u8], p: Point) {
 
 // The pairs; then a NaN, and infinity, which no constant holds.
 fn ask_each(rt: &HostRuntime, sheet: &[u8], pairs: &[[f64; 2]]) {
-    let mut k = 0;
-    while k < pairs.len() {
-        let pair = pairs[k];
+    for [first, second] in pairs {
         ask(
             rt,
             sheet,
             Point {
-                first: pair[0],
-                second: pair[1],
+                first: *first,
+                second: *second,
             },
         );
-        k += 1;
     }
     ask(
         rt,
@@ -238,15 +226,12 @@ fn ask_each(rt: &HostRuntime, sheet: &[u8], pairs: &[[f64; 2]]) {
 
 // Counts in feet.
 fn feet(rt: &HostRuntime, counts: &[i32]) {
-    let mut k = 0;
-    while k < counts.len() {
-        let count = counts[k];
+    for count in counts {
         put(rt, b'F');
-        put_signed(rt, count);
+        put_signed(rt, *count);
         put(rt, b':');
-        put_float(rt, door::feet(count));
+        put_float(rt, door::feet(*count));
         put(rt, b'\n');
-        k += 1;
     }
 }
 
@@ -272,7 +257,7 @@ fn main(rt: HostRuntime) {
     let k = rt.arg(1, &mut path).unwrap_or(0);
     let mut space = files::sheet_room();
     if let Ok(mut file) = files::open(&rt, &path[..k]) {
-        let n = files::read_full(&mut file, &mut space);
+        let n = files::read_full(&mut file, &mut space).unwrap_or(0);
         run(&rt, &space, n);
     }
 }

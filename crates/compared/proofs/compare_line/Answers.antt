@@ -9,7 +9,7 @@ returns c =
     let w = c.values_of-w.ensures in
     let text = text_is _ _ _ _ _ v w _ c.same_values-changed.ensures c.args.n in
     record {
-      point = rw (← l) c.is_form.ensures;
+      point = rw (← l) c.is_some.ensures;
       changed = rw (← l) (changes_is _ _ _ _ _ v w _ c.same_values-changed.ensures);
       reached = rw (← l) c.is_reached.ensures;
       text = (c.put_where-next.ensures.0, rw (← l) (rw text at c.put_where-next.ensures.1));

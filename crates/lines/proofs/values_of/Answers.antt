@@ -1,34 +1,37 @@
 -- `lines::values_of` meets its contract: each form's conversion. Assumes nothing.
-use mir.Facts.{to_z-of_z}
+use mathlib.Core.Path.{◌≡◌, ap, ◌∙◌}
 use mir.Syntax.{w32}
-use mathlib.Core.Path.{◌∙◌}
-use Rattle.lines.proofs.Answers.{forward-values, inverse-values, grid-values, none-known}
-use borrow.Author.Rules.{sfits_of}
+use mir.Val.{to_z, of_z}
+use Rattle.rounding.proofs.Bits.{both-same}
+use Rattle.forward.specs.Forward.{forward_of}
+use Rattle.inverse.specs.Inverse.{inverse_of}
+use Rattle.convergence.specs.Grid.{grid_of}
+use Rattle.convert.proofs.Checked.{forward-passes, inverse-passes, grid-passes}
+use Rattle.lines.specs.Lines.{plane_values, geographic_values, grid_values, values_of}
+use Rattle.lines.proofs.Answers.{none-known}
+use borrow.Author.Rules.{rules}
 use Rattle.lines.proofs.values_of.Goals as goal
 
-pub returns-then-form-eq-FORWARD : goal.returns-then-form-eq-FORWARD
-returns-then-form-eq-FORWARD c =
-    let x = to_z-of_z {w = w32} {z = c.args.l.first} (sfits_of c.struct_told-1.given.1.0.1) in
-    let y = to_z-of_z {w = w32} {z = c.args.l.second} (sfits_of c.struct_told-then-form-eq-FORWARD-1.given.1.1.0.1) in
-    let u = to_z-of_z {w = w32} {z = c.forward-r.result.x} (sfits_of c.struct_told-then-form-eq-FORWARD-2-1.given.1.0.1) in
-    let v = to_z-of_z {w = w32} {z = c.forward-r.result.y} (sfits_of c.struct_told-then-form-eq-FORWARD-2-1.given.1.1.0.1) in
-    rw (u, v) (forward-values c.args.sheet.bytes.now c.args.l c.args.sheet.known.passes _ _ x y c.forward-r.result c.if-form-eq-FORWARD.true c.forward-r.ensures)
+pub returns-in_default : goal.returns-in_default
+returns-in_default c = c.refusal.ensures ∙ none-known _ _ c.in_default.not-Some
 
-pub returns-then-form-eq-INVERSE : goal.returns-then-form-eq-INVERSE
-returns-then-form-eq-INVERSE c =
-    let x = to_z-of_z {w = w32} {z = c.args.l.first} (sfits_of c.struct_told-then-form-eq-INVERSE-1.given.1.0.1) in
-    let y = to_z-of_z {w = w32} {z = c.args.l.second} (sfits_of c.struct_told-then-form-eq-INVERSE-2-1.given.1.1.0.1) in
-    let u = to_z-of_z {w = w32} {z = c.inverse-r.result.latitude} (sfits_of c.struct_told-then-form-eq-INVERSE-3-1.given.1.0.1) in
-    let v = to_z-of_z {w = w32} {z = c.inverse-r.result.longitude} (sfits_of c.struct_told-then-form-eq-INVERSE-3-1.given.1.1.0.1) in
-    rw (u, v) (inverse-values c.args.sheet.bytes.now c.args.l c.args.sheet.known.passes _ _ x y c.inverse-r.result c.if-form-eq-FORWARD.false c.if-form-eq-INVERSE.true c.inverse-r.ensures)
+pub returns-in-Forward : goal.returns-in-Forward
+unfolding values_of
+returns-in-Forward c =
+    let first : to_z w32 (of_z w32 c.in-Some.l.first) ≡ c.in-Some.l.first = search rules in
+    let second : to_z w32 (of_z w32 c.in-Some.l.second) ≡ c.in-Some.l.second = search rules in
+    rw (c.in-Some.is, c.in-Forward.is) (c.into.ensures ∙ ap plane_values (forward-passes _ _ _ _ c.args.sheet.known.passes (c.forward.ensures ∙ both-same (forward_of _) first second)))
 
-pub returns-then-form-eq-CONVERGENCE : goal.returns-then-form-eq-CONVERGENCE
-returns-then-form-eq-CONVERGENCE c =
-    let x = to_z-of_z {w = w32} {z = c.args.l.first} (sfits_of c.struct_told-then-form-eq-CONVERGENCE-1.given.1.0.1) in
-    let y = to_z-of_z {w = w32} {z = c.args.l.second} (sfits_of c.struct_told-then-form-eq-CONVERGENCE-2-1.given.1.1.0.1) in
-    let u = to_z-of_z {w = w32} {z = c.convergence-r.result.convergence} (sfits_of c.struct_told-then-form-eq-CONVERGENCE-3-1.given.1.0.1) in
-    let v = to_z-of_z {w = w32} {z = c.convergence-r.result.scale} (sfits_of c.struct_told-then-form-eq-CONVERGENCE-3-1.given.1.1.0.1) in
-    rw (u, v) (grid-values c.args.sheet.bytes.now c.args.l c.args.sheet.known.passes _ _ x y c.convergence-r.result c.if-form-eq-FORWARD.false c.if-form-eq-INVERSE.false c.if-form-eq-CONVERGENCE.true c.convergence-r.ensures)
+pub returns-in-Inverse : goal.returns-in-Inverse
+unfolding values_of
+returns-in-Inverse c =
+    let first : to_z w32 (of_z w32 c.in-Some.l.first) ≡ c.in-Some.l.first = search rules in
+    let second : to_z w32 (of_z w32 c.in-Some.l.second) ≡ c.in-Some.l.second = search rules in
+    rw (c.in-Some.is, c.in-Inverse.is) (c.into-in-Inverse.ensures ∙ ap geographic_values (inverse-passes _ _ _ _ c.args.sheet.known.passes (c.inverse.ensures ∙ both-same (inverse_of _) first second)))
 
-pub returns : goal.returns
-returns c = c.refusal.ensures ∙ none-known _ _ c.if-form-eq-FORWARD.false c.if-form-eq-INVERSE.false c.if-form-eq-CONVERGENCE.false
+pub returns-in-Convergence : goal.returns-in-Convergence
+unfolding values_of
+returns-in-Convergence c =
+    let first : to_z w32 (of_z w32 c.in-Some.l.first) ≡ c.in-Some.l.first = search rules in
+    let second : to_z w32 (of_z w32 c.in-Some.l.second) ≡ c.in-Some.l.second = search rules in
+    rw (c.in-Some.is, c.in-Convergence.is) (c.into-in-Convergence.ensures ∙ ap grid_values (grid-passes _ _ _ _ c.args.sheet.known.passes (c.convergence.ensures ∙ both-same (grid_of _) first second)))

@@ -20,17 +20,17 @@ overflow_cast-l c = wide_fits (first_fits (goal.at.overflow_cast-l c).Start)
 pub size-requires : goal.size-requires
 size-requires c = size_below (wide (first_fits (goal.at.size-requires c).Start)) tt
 
-pub returns-then-form-eq-FORWARD : goal.returns-then-form-eq-FORWARD
-returns-then-form-eq-FORWARD c =
-    let first = wide (first_fits (goal.at.returns-then-form-eq-FORWARD c).Start) in
+pub returns-in-Forward : goal.returns-in-Forward
+returns-in-Forward c =
+    let first = wide (first_fits (goal.at.returns-in-Forward c).Start) in
     let size : c.size.result ≡ nat_abs c.args.l.first = c.size.ensures ∙ ap nat_abs first.is in
-    (forward_lower _ c.args.l c.if-form-eq-FORWARD.true _ size, minutes_most c.size.result 40_000 (omega (arith, size, first.size)))
+    (forward_lower _ c.args.l c.in-Forward.is _ size, minutes_most c.size.result 40_000 (omega (arith, size, first.size)))
 
-pub returns-then-form-eq-INVERSE : goal.returns-then-form-eq-INVERSE
-returns-then-form-eq-INVERSE c =
+pub returns-in-Inverse : goal.returns-in-Inverse
+returns-in-Inverse c =
     let x : to_z w32 (of_z w32 c.args.l.first) ≡ c.args.l.first = search rules in
     let y : to_z w32 (of_z w32 c.args.l.second) ≡ c.args.l.second = search rules in
-    (inverse_lower _ c.args.l c.if-form-eq-FORWARD.false c.if-form-eq-INVERSE.true _ _ _ x y c.plane_minute.ensures.0, c.plane_minute.ensures.1)
+    (inverse_lower _ c.args.l c.in-Inverse.is _ _ _ x y c.plane_minute.ensures.0, c.plane_minute.ensures.1)
 
-pub returns : goal.returns
-returns c = (none_lower _ _ c.if-form-eq-FORWARD.false c.if-form-eq-INVERSE.false, omega arith)
+pub returns-in-Convergence : goal.returns-in-Convergence
+returns-in-Convergence c = (none_lower _ _ c.in-Convergence.is, omega arith)
