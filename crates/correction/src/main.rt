@@ -6,12 +6,10 @@
 ghost use Rattle.std.specs.Prelude.{◌≡◌, cond, ◌||◌, ◌++◌, ◌+◌, ◌<◌, ◌≤◌, min, ltb, length, take, drop};
 
 use files::{Line, MOST_NAME};
+use refusals::Refusal;
 
 // Room for what is read of the input at a time.
 const INPUT: usize = 4096;
-
-// The number of a line of no known form.
-const UNKNOWN: u32 = 18;
 
 // Prints the number; false where it could not be.
 fn print(rt: &HostRuntime, number: u32) -> bool {
@@ -24,23 +22,27 @@ fn print(rt: &HostRuntime, number: u32) -> bool {
 // Corrects the sheet by the line and, where that is accepted, saves it under the name; then prints the number. Where it cannot be saved there is no number. Nothing is saved where standard output is
 // closed.
 fn run(rt: &HostRuntime, sheet: &mut [u8], name: &[u8], line: &[u8]) {
-    let number = row_line::correct_by(sheet, line);
-    if number == UNKNOWN {
-        files::say(
-            rt,
-            b"the third line is not of the form minute y0 H V a, or there is more behind it\n",
-        );
-    }
-    if number == 0 {
-        if !files::is_open(rt) {
-            return;
+    match row_line::correct_by(sheet, line) {
+        Ok(()) => {
+            if !files::is_open(rt) {
+                return;
+            }
+            if !saving::save(rt, name, sheet) {
+                return;
+            }
+            if !print(rt, 0) {
+                files::say(rt, b"the corrected sheet is written all the same\n");
+            }
         }
-        if !saving::save(rt, name, sheet) {
-            return;
+        Err(refusal) => {
+            if refusal == Refusal::Line {
+                files::say(
+                    rt,
+                    b"the third line is not of the form minute y0 H V a, or there is more behind it\n",
+                );
+            }
+            print(rt, refusal.number());
         }
-    }
-    if !print(rt, number) & (number == 0) {
-        files::say(rt, b"the corrected sheet is written all the same\n");
     }
 }
 

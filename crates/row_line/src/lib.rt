@@ -2,7 +2,10 @@
 #![tactic(auto)]
 
 ghost use Rattle.std.specs.Prelude.{◌≡◌};
+ghost use Rattle.refusals.specs.Numbers.{number};
 ghost use Rattle.row_line.specs.RowLine.{row_asked, number_by, sheet_by};
+
+use refusals::Refusal;
 
 // What the line asks: the minute, and new y0 (0.01 ft), H (0.000001), V (0.000001) and a (0.001).
 #[derive(Clone, Copy)]
@@ -33,14 +36,12 @@ pub fn row_asked(line: &[u8]) -> Option<NewRow>
     })
 }
 
-// The correction that the line asks for: 18, or what `correct::correct` answers and writes.
+// The correction that the line asks for: 18 where it is of no known form, else what `correct::correct` answers and writes.
 #[tactic(auto, unfolding(crate::specs::RowLine::number_of_row, crate::specs::RowLine::sheet_of_row))]
-pub fn correct_by(sheet: &mut [u8], line: &[u8]) -> u32
-    ensures answer { result ≡ number_by sheet.old line.now }
+pub fn correct_by(sheet: &mut [u8], line: &[u8]) -> Result<(), Refusal>
+    ensures answer { number result ≡ number_by sheet.old line.now }
     ensures memory { sheet.new ≡ sheet_by sheet.old line.now }
 {
-    let Some(r) = row_asked(line) else {
-        return 18;
-    };
+    let r = row_asked(line).ok_or(Refusal::Line)?;
     correct::correct(sheet, r.minute, r.y0, r.h, r.v, r.a)
 }
