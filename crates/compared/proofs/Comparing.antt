@@ -1,5 +1,5 @@
 -- A line compared: each test of it, and what is written. Assumes nothing.
-use mathlib.Core.Path.{◌≡◌, refl}
+use mathlib.Core.Path.{◌≡◌, refl, sym}
 use mathlib.Core.Bool.{Bool, true, false, not, ◌&&◌}
 use mathlib.Core.List.{List, []}
 use Prim.Native.Nat.{ℕ}
@@ -7,7 +7,9 @@ use native.Mathlib.Omega.{arith}
 use borrow.Author.Tests.{eqb-true, eq-eqb}
 use lib.Dec.{eqb}
 use Rattle.refusals.specs.Tests.{same_as}
-use Rattle.refusals.proofs.Ranges.{same_true, same_self}
+use Rattle.std.proofs.Math.Bool.{and_assoc}
+use Rattle.std.specs.Ordering.{int_eq}
+use Rattle.refusals.proofs.Ranges.{same_true, same_self, eq_same}
 use Rattle.decimal.specs.Writing.{Wrote}
 use Rattle.std.proofs.Common.{Option}
 use Rattle.point_line.specs.declared.Line.{Line}
@@ -28,13 +30,18 @@ module _ (n : ℕ) (v w : Values) (changed : Bool) where
 pub wrote_none : (l : List ℕ) (at : ℕ) → Wrote l l at at []
 wrote_none l at = record { place = omega arith; bytes = refl }
 
+-- ---- the derived `==` of two answers
+pub eq_values : (v w : Values) → (eqb v.number w.number && (int_eq v.first w.first && int_eq v.second w.second)) ≡ same_values v w
+unfolding same_values
+eq_values v w = rw (eq_same v.first w.first, eq_same v.second w.second) (sym (and_assoc (eqb v.number w.number) (same_as v.first w.first) (same_as v.second w.second)))
+
 -- ---- on the two sheets
-module _ (s t : List ℕ) (l : Option Line) (v w : Values) (e : v ≡ values_of s l) (f : w ≡ values_of t l) (r : Bool) (q : r ≡ same_values v w) where
-  pub changes_is : not r ≡ changes s t l
+module _ (s t : List ℕ) (l : Option Line) (v w : Values) (e : v ≡ values_of s l) (f : w ≡ values_of t l) (r : Bool) (q : r ≡ not (same_values v w)) where
+  pub changes_is : r ≡ changes s t l
   unfolding changes
   changes_is = rw (q, e, f)
 
-  pub text_is : (n : ℕ) → change_text (not r) n v w ≡ compared_text s t n l
+  pub text_is : (n : ℕ) → change_text r n v w ≡ compared_text s t n l
   unfolding compared_text
   text_is n = rw (changes_is, e, f)
 

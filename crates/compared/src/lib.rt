@@ -6,7 +6,7 @@ ghost use Rattle.decimal.specs.Writing.{Wrote};
 ghost use Rattle.point_line.specs.PointLine.{line_of};
 ghost use Rattle.differing.specs.Differing.{differing_rows};
 ghost use Rattle.reached.specs.Reached.{reaches};
-ghost use Rattle.compared.specs.Compared.{same_values, changes, values_text, change_line, change_text, compared_text, change_room};
+ghost use Rattle.compared.specs.Compared.{changes, values_text, change_line, change_text, compared_text, change_room};
 
 use lines::Values;
 use point_line::BLANK;
@@ -23,17 +23,6 @@ pub struct Compared {
 
 // Room for any line that is written: seven numbers of at most 21 bytes, with a byte after each.
 pub const CHANGE_ROOM: usize = 154;
-
-// ---- whether the answer changes
-
-// Whether two answers are the same.
-fn same_values(v: Values, w: Values) -> bool
-    ensures { result ≡ same_values v w }
-{
-    (v.number == w.number)
-        & refusals::same_as(v.first, w.first)
-        & refusals::same_as(v.second, w.second)
-}
 
 // ---- what is written
 
@@ -86,7 +75,7 @@ pub fn compare_line(
     let l = point_line::line_of(line);
     let v = lines::values_of(old, l);
     let w = lines::values_of(new, l);
-    let changed = !same_values(v, w);
+    let changed = v != w;
     let next = put_where(changed, out, at, n, v, w);
     Compared {
         point: l.is_some(),
