@@ -64,12 +64,11 @@ fn run_by(rt: &HostRuntime, sheet: &mut [u8], name: &[u8], input: &mut [u8], fro
         return;
     }
     let mut rest = [0u8; 16];
-    let more = files::read_on(rt, &mut rest, 0);
-    if more.failed {
+    let Some(more) = files::read_on(rt, &mut rest, 0) else {
         return;
-    }
+    };
     let start = line.from;
-    let end = only_line(line, more.to);
+    let end = only_line(line, more);
     run(rt, sheet, name, &input[start..end]);
 }
 
