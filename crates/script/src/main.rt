@@ -11,11 +11,11 @@
 // A line is known by its first byte. Each of the first three is judged by the check; a correction stays until the next of them.
 #![tactic(auto)]
 
-use contents::Verdict;
+use contents::Refused;
 use point_line::{Form, Line};
+use refusals::Refusal;
 use std::io::Print;
 use stream::LINE_FEED;
-use touched::Touch;
 
 // ---- printing
 
@@ -36,8 +36,12 @@ fn print_signed(rt: &HostRuntime, z: i32) {
     let _ = rt.print(z);
 }
 
-// An answer: number and two values, each after a blank, and the word half if some rounding met one.
-fn print_answer(rt: &HostRuntime, number: u32, first: i32, second: i32, half: bool) {
+// An answer: number and two values, each after a blank, zeros in a refusal, and the word half if some rounding met one.
+fn print_answer(rt: &HostRuntime, answer: Result<(i32, i32, bool), Refusal>) {
+    let (number, first, second, half) = match answer {
+        Ok((first, second, half)) => (0, first, second, half),
+        Err(r) => (r.number(), 0, 0, false),
+    };
     print(rt, b" ");
     print_size(rt, number as u64);
     print(rt, b" ");
@@ -49,21 +53,29 @@ fn print_answer(rt: &HostRuntime, number: u32, first: i32, second: i32, half: bo
     }
 }
 
-// The check's answer: number, kind, row.
-fn print_verdict(rt: &HostRuntime, v: Verdict) {
-    print_size(rt, v.number as u64);
+// The check's answer: number, kind, row, all 0 in a pass.
+fn print_check(rt: &HostRuntime, answer: Result<(), Refused>) {
+    let (number, kind, row) = match answer {
+        Ok(()) => (0, 0, 0),
+        Err(r) => (r.refusal.number(), r.kind, r.row),
+    };
+    print_size(rt, number as u64);
     print(rt, b" ");
-    print_size(rt, v.kind as u64);
+    print_size(rt, kind as u64);
     print(rt, b" ");
-    print_size(rt, v.row as u64);
+    print_size(rt, row as u64);
 }
 
 // Whether a correction may change an answer: number, and 1 for yes.
-fn print_touch(rt: &HostRuntime, t: Touch) {
+fn print_touch(rt: &HostRuntime, answer: Result<bool, Refusal>) {
+    let (number, touched) = match answer {
+        Ok(touched) => (0, touched),
+        Err(r) => (r.number(), false),
+    };
     print(rt, b", touched ");
-    print_size(rt, t.number as u64);
+    print_size(rt, number as u64);
     print(rt, b" ");
-    print_size(rt, t.touched as u64);
+    print_size(rt, touched as u64);
 }
 
 // ---- bytes
@@ -93,20 +105,22 @@ fn answer(rt: &HostRuntime, sheet: &[u8], asked: Option<Line>) {
         print(rt, b" 18");
         return;
     };
-    match l.form {
+    let answer = match l.form {
         Form::Forward => {
-            let r = convert::geographic_to_plane(sheet, l.first, l.second);
-            print_answer(rt, r.number, r.x, r.y, r.half);
+            convert::geographic_to_plane(sheet, l.first, l.second).map(|p| (p.x, p.y, p.half))
         }
-        Form::Inverse => {
-            let r = convert::plane_to_geographic(sheet, l.first, l.second);
-            print_answer(rt, r.number, r.latitude, r.longitude, r.half);
-        }
-        Form::Convergence => {
-            let r = convert::convergence_and_scale(sheet, l.first, l.second);
-            print_answer(rt, r.number, r.convergence, r.scale, r.half);
-        }
-    }
+        Form::Inverse => convert::plane_to_geographic(sheet, l.first, l.second).map(|g| (
+            g.latitude,
+            g.longitude,
+            g.half,
+        )),
+        Form::Convergence => convert::convergence_and_scale(sheet, l.first, l.second).map(|g| (
+            g.convergence,
+            g.scale,
+            g.half,
+        )),
+    };
+    print_answer(rt, answer);
 }
 
 // Prints whether a correction of the minute's row may change the answer. Convergence and scale take nothing from a latitude row.
@@ -159,7 +173,7 @@ fn ask_each(
 // Prints what a correction changed: the check's answer after it, and in how many bytes the sheet differs.
 fn print_change(rt: &HostRuntime, before: &[u8], after: &[u8]) {
     print(rt, b" check ");
-    print_verdict(rt, sheet_check::check(after));
+    print_check(rt, sheet_check::check(after));
     print(rt, b" bytes ");
     print_size(rt, differing(before, after) as u64);
     print(rt, b"\n");
@@ -172,7 +186,10 @@ fn correct(rt: &HostRuntime, line: &[u8], list: &[u8], sheet: &mut [u8]) {
     let n = copy(sheet, room);
     let before = part(room, 0, n);
     let row = part(line, 2, line.len());
-    let number = row_line::correct_by(sheet, row);
+    let number = match row_line::correct_by(sheet, row) {
+        Ok(()) => 0,
+        Err(r) => r.number(),
+    };
     print(rt, line);
     print(rt, b": ");
     print_size(rt, number as u64);
@@ -226,7 +243,7 @@ fn judge(rt: &HostRuntime, line: &[u8], name: &[u8], sheet: &mut [u8]) -> usize 
     let n = length_of(line, all);
     print(rt, line);
     print(rt, b": ");
-    print_verdict(rt, sheet_check::check(part(sheet, 0, n)));
+    print_check(rt, sheet_check::check(part(sheet, 0, n)));
     print(rt, b"\n");
     n
 }
