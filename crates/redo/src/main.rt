@@ -24,20 +24,12 @@ fn say_stray(rt: &HostRuntime, a: Tally) {
     }
     let mut out = [0u8; 64];
     files::say(rt, b"lines of no known form: ");
-    let n = decimal::put_size(&mut out, 0, less(a.lines, a.points));
+    let n = decimal::put_size(&mut out, 0, a.lines.saturating_sub(a.points));
     files::say(rt, &out[0..n]);
     files::say(rt, b"; the first is line ");
     let m = decimal::put_size(&mut out, 0, a.stray);
     files::say(rt, &out[0..m]);
     files::say(rt, b"\n");
-}
-
-// a less b, 0 where b is more.
-fn less(a: u64, b: u64) -> u64 {
-    if a < b {
-        return 0;
-    }
-    a - b
 }
 
 // ---- the sheets
