@@ -1,6 +1,7 @@
 -- The theorems that belong to no one function.
 pub mod NearestIsNearest
 pub mod HalfIsHalf
+pub mod Told
 pub mod OneAnswer
 pub mod AnswersFit
 pub mod Refused

@@ -69,6 +69,7 @@ use Rattle.row_line.proofs.row_asked.Kinds as row-kinds
 use Rattle.row_line.proofs.row_asked.Reads as row_reads
 use Rattle.row_line.proofs.correct_by.Kinds as row-line-kinds
 use Rattle.row_line.proofs.correct_by.Reads as row-line-reads
+use Rattle.promises.proofs.Told.{same-number, same-touch, same-batch, same-check, same-plane, same-geographic, same-grid, same-door}
 use Rattle.reader.specs.declared.Reader.{Reader}
 use Rattle.reader.specs.contracts.new as new
 use Rattle.reader.specs.contracts.moved as moved
@@ -81,42 +82,42 @@ use Rattle.reader.proofs.read_entry.Reads as entry-reads
 -- `sheet_check::check`
 pub one_check : (κs : Lfts 1) (sheet : Dens κs check-kinds.ps) (r t : (res_t check-kinds.r κs).Denot) (x y : AtExit (ended_of 1 check-kinds.ps check-kinds.r) κs)
     → check-reads.Learnt κs sheet r x → check-reads.Learnt κs sheet t y → r ≡ t
-one_check κs sheet r t x y p q = p ∙ sym q
+one_check κs sheet r t x y p q = same-check r t (p ∙ sym q)
 
 -- `convert::geographic_to_plane`
 pub one-plane : (κs : Lfts 1) (given : Dens κs forward-kinds.ps) (r t : (res_t forward-kinds.r κs).Denot) (x y : AtExit (ended_of 1 forward-kinds.ps forward-kinds.r) κs)
     → forward-reads.Learnt κs given r x → forward-reads.Learnt κs given t y → r ≡ t
-one-plane κs given r t x y p q = p ∙ sym q
+one-plane κs given r t x y p q = same-plane r t (p ∙ sym q)
 
 -- `convert::plane_to_geographic`
 pub one-geographic : (κs : Lfts 1) (given : Dens κs inverse-kinds.ps) (r t : (res_t inverse-kinds.r κs).Denot) (x y : AtExit (ended_of 1 inverse-kinds.ps inverse-kinds.r) κs)
     → inverse-reads.Learnt κs given r x → inverse-reads.Learnt κs given t y → r ≡ t
-one-geographic κs given r t x y p q = p ∙ sym q
+one-geographic κs given r t x y p q = same-geographic r t (p ∙ sym q)
 
 -- `convert::convergence_and_scale`
 pub one-grid : (κs : Lfts 1) (given : Dens κs grid-kinds.ps) (r t : (res_t grid-kinds.r κs).Denot) (x y : AtExit (ended_of 1 grid-kinds.ps grid-kinds.r) κs)
     → grid-reads.Learnt κs given r x → grid-reads.Learnt κs given t y → r ≡ t
-one-grid κs given r t x y p q = p ∙ sym q
+one-grid κs given r t x y p q = same-grid r t (p ∙ sym q)
 
 -- `touched::geographic_touched`
 pub one-geographic-touch : (κs : Lfts 1) (given : Dens κs geographic-kinds.ps) (r t : (res_t geographic-kinds.r κs).Denot) (x y : AtExit (ended_of 1 geographic-kinds.ps geographic-kinds.r) κs)
     → geographic-reads.Learnt κs given r x → geographic-reads.Learnt κs given t y → r ≡ t
-one-geographic-touch κs given r t x y p q = p ∙ sym q
+one-geographic-touch κs given r t x y p q = same-touch r t (p ∙ sym q)
 
 -- `touched::plane_touched`
 pub one-plane-touch : (κs : Lfts 1) (given : Dens κs plane-kinds.ps) (r t : (res_t plane-kinds.r κs).Denot) (x y : AtExit (ended_of 1 plane-kinds.ps plane-kinds.r) κs)
     → plane-reads.Learnt κs given r x → plane-reads.Learnt κs given t y → r ≡ t
-one-plane-touch κs given r t x y p q = p ∙ sym q
+one-plane-touch κs given r t x y p q = same-touch r t (p ∙ sym q)
 
 -- `correct::correct`: one number, and one content of the lent sheet
 pub one_correction : (κs : Lfts 1) (given : Dens κs correct-kinds.ps) (r t : (res_t correct-kinds.r κs).Denot) (x y : AtExit (ended_of 1 correct-kinds.ps correct-kinds.r) κs)
     → correct-reads.Learnt κs given r x → correct-reads.Learnt κs given t y → (r ≡ t) × (x.0.now ≡ y.0.now)
-one_correction κs given r t x y p q = (p.0 ∙ sym q.0, p.1 ∙ sym q.1)
+one_correction κs given r t x y p q = (same-number r t (p.0 ∙ sym q.0), p.1 ∙ sym q.1)
 
 -- `batch::batch`: one number and count, and one content of the answers' memory
 pub one_batch : (κs : Lfts 3) (given : Dens κs batch-kinds.ps) (r t : (res_t batch-kinds.r κs).Denot) (x y : AtExit (ended_of 3 batch-kinds.ps batch-kinds.r) κs)
     → batch-reads.Learnt κs given r x → batch-reads.Learnt κs given t y → (r ≡ t) × (x.1.1.0.now ≡ y.1.1.0.now)
-one_batch κs given r t x y p q = (p.0 ∙ sym q.0, p.1 ∙ sym q.1)
+one_batch κs given r t x y p q = (same-batch r t (p.0 ∙ sym q.0), p.1 ∙ sym q.1)
 
 -- `counts::whole_of`
 pub one-whole : (κs : Lfts 0) (given : Dens κs whole_Kinds.ps) (r t : (res_t whole_Kinds.r κs).Denot) (x y : AtExit (ended_of 0 whole_Kinds.ps whole_Kinds.r) κs)
@@ -126,17 +127,17 @@ one-whole κs given r t x y p q = p ∙ sym q
 -- `door::geographic_to_plane`
 pub one_door_plane : (κs : Lfts 1) (given : Dens κs door-forward-kinds.ps) (r t : (res_t door-forward-kinds.r κs).Denot) (x y : AtExit (ended_of 1 door-forward-kinds.ps door-forward-kinds.r) κs)
     → door-forward-reads.Learnt κs given r x → door-forward-reads.Learnt κs given t y → r ≡ t
-one_door_plane κs given r t x y p q = p ∙ sym q
+one_door_plane κs given r t x y p q = same-door r t (p ∙ sym q)
 
 -- `door::plane_to_geographic`
 pub one_door_geographic : (κs : Lfts 1) (given : Dens κs door-inverse-kinds.ps) (r t : (res_t door-inverse-kinds.r κs).Denot) (x y : AtExit (ended_of 1 door-inverse-kinds.ps door-inverse-kinds.r) κs)
     → door-inverse-reads.Learnt κs given r x → door-inverse-reads.Learnt κs given t y → r ≡ t
-one_door_geographic κs given r t x y p q = p ∙ sym q
+one_door_geographic κs given r t x y p q = same-door r t (p ∙ sym q)
 
 -- `door::convergence_and_scale`
 pub one_door_grid : (κs : Lfts 1) (given : Dens κs door-grid-kinds.ps) (r t : (res_t door-grid-kinds.r κs).Denot) (x y : AtExit (ended_of 1 door-grid-kinds.ps door-grid-kinds.r) κs)
     → door-grid-reads.Learnt κs given r x → door-grid-reads.Learnt κs given t y → r ≡ t
-one_door_grid κs given r t x y p q = p ∙ sym q
+one_door_grid κs given r t x y p q = same-door r t (p ∙ sym q)
 
 -- `door::feet`
 pub one_feet : (κs : Lfts 0) (given : Dens κs feet-kinds.ps) (r t : (res_t feet-kinds.r κs).Denot) (x y : AtExit (ended_of 0 feet-kinds.ps feet-kinds.r) κs)
@@ -145,12 +146,12 @@ one_feet κs given r t x y p q = p ∙ sym q
 
 -- `lines::answer`: one place after the line, and one content of the output's memory
 pub one_line : (κs : Lfts 3) (given : Dens κs line-kinds.ps) (r t : (res_t line-kinds.r κs).Denot) (x y : AtExit (ended_of 3 line-kinds.ps line-kinds.r) κs)
-    → line_reads_lem.Learnt κs given r x → line_reads_lem.Learnt κs given t y → (r ≡ t) × (x.1.1.1.0.now ≡ y.1.1.1.0.now)
+    → line_reads_lem.Learnt κs given r x → line_reads_lem.Learnt κs given t y → (r ≡ t) × (x.1.1.0.now ≡ y.1.1.0.now)
 one_line κs given r t x y p q = (p.1.place ∙ sym q.1.place, p.1.bytes ∙ sym q.1.bytes)
 
 -- `compared::compare_line`: one answer, and one content of the output's memory
 pub one-compared : (κs : Lfts 4) (given : Dens κs compared-kinds.ps) (r t : (res_t compared-kinds.r κs).Denot) (x y : AtExit (ended_of 4 compared-kinds.ps compared-kinds.r) κs)
-    → compared-reads.Learnt κs given r x → compared-reads.Learnt κs given t y → (r ≡ t) × (x.1.1.1.1.1.0.now ≡ y.1.1.1.1.1.0.now)
+    → compared-reads.Learnt κs given r x → compared-reads.Learnt κs given t y → (r ≡ t) × (x.1.1.1.1.0.now ≡ y.1.1.1.1.0.now)
 one-compared κs given r t x y p q =
     let one = p.1.1.1.1 in
     let two = q.1.1.1.1 in
@@ -213,7 +214,7 @@ one-row κs given r t x y p q = p ∙ sym q
 -- `row_line::correct_by`: one number, and one content of the lent sheet
 pub one-row_line : (κs : Lfts 2) (given : Dens κs row-line-kinds.ps) (r t : (res_t row-line-kinds.r κs).Denot) (x y : AtExit (ended_of 2 row-line-kinds.ps row-line-kinds.r) κs)
     → row-line-reads.Learnt κs given r x → row-line-reads.Learnt κs given t y → (r ≡ t) × (x.0.now ≡ y.0.now)
-one-row_line κs given r t x y p q = (p.0 ∙ sym q.0, p.1 ∙ sym q.1)
+one-row_line κs given r t x y p q = (same-number r t (p.0 ∙ sym q.0), p.1 ∙ sym q.1)
 
 -- `reader::entry_at`
 pub one_entry_at : (κs : Lfts 1) (given : Dens κs at-kinds.ps) (r t : (res_t at-kinds.r κs).Denot) (x y : AtExit (ended_of 1 at-kinds.ps at-kinds.r) κs)
