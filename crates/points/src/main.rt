@@ -26,7 +26,11 @@ fn run(rt: &HostRuntime, sheet: &[u8], input: &mut [u8], from: usize, to: usize,
         return;
     }
     if let Ok(sheet) = checked {
-        let h = Held { from, to, state: () };
+        let h = Held {
+            from,
+            to,
+            state: (),
+        };
         filter::answer_input(rt, &Points { sheet }, input, h, out);
     }
 }

@@ -55,10 +55,7 @@ fn print_answer(rt: &HostRuntime, answer: Result<(i32, i32, bool), Refusal>) {
 
 // The check's answer: number, kind, row, all 0 in a pass.
 fn print_check(rt: &HostRuntime, answer: Result<(), Refused>) {
-    let (number, kind, row) = match answer {
-        Ok(()) => (0, 0, 0),
-        Err(r) => (r.refusal.number(), r.kind, r.row),
-    };
+    let (number, kind, row) = contents::numbers(answer.err());
     print_size(rt, number as u64);
     print(rt, b" ");
     print_size(rt, kind as u64);
