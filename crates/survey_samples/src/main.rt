@@ -96,8 +96,7 @@ fn show_point(rt: &HostRuntime, sheet: Passed, latitude: i32, longitude: i32)
 }
 
 // A station forward, with the figures on the way.
-fn forward(rt: &HostRuntime, sheet: Passed, latitude: i32, longitude: i32)
-{
+fn forward(rt: &HostRuntime, sheet: Passed, latitude: i32, longitude: i32) {
     let answer = forward::forward(sheet, latitude, longitude).into();
     print_line(rt, b"G", latitude, longitude, answer);
     if !extent::latitude_known(sheet, latitude) {
@@ -126,8 +125,7 @@ fn show_reduction(rt: &HostRuntime, sheet: Passed, x: u64, y: i32)
 }
 
 // A station back, with the figures on the way.
-fn back(rt: &HostRuntime, sheet: Passed, x: i32, y: i32)
-{
+fn back(rt: &HostRuntime, sheet: Passed, x: i32, y: i32) {
     let answer = inverse::inverse(sheet, x, y).into();
     print_line(rt, b"P", x, y, answer);
     let xp = extent::x_prime(sheet, x);
@@ -141,8 +139,7 @@ fn back(rt: &HostRuntime, sheet: Passed, x: i32, y: i32)
 }
 
 // A station, at its latitude, longitude, x and y: forward, back, and its convergence and scale.
-fn station(rt: &HostRuntime, sheet: Passed, point: [i32; 4])
-{
+fn station(rt: &HostRuntime, sheet: Passed, point: [i32; 4]) {
     forward(rt, sheet, point[0], point[1]);
     back(rt, sheet, point[2], point[3]);
     let answer = convergence::convergence(sheet, point[2], point[3]).into();
@@ -150,8 +147,7 @@ fn station(rt: &HostRuntime, sheet: Passed, point: [i32; 4])
 }
 
 // Every station of a table.
-fn station_each(rt: &HostRuntime, sheet: Passed, points: &[[i32; 4]])
-{
+fn station_each(rt: &HostRuntime, sheet: Passed, points: &[[i32; 4]]) {
     for point in points {
         station(rt, sheet, *point);
     }

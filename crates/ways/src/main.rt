@@ -5,8 +5,9 @@
 
 ghost use Rattle.std.specs.Prelude.{◌≡◌, ◌≤◌, length};
 
-use door::{Answer, Point};
+use door::{Point, TwoCounts};
 use reader::Entry;
+use refusals::Refusal;
 use std::io::Print;
 use std::rt::Env;
 
@@ -117,28 +118,32 @@ fn marks() -> [i32; 12291]
     [-7; 12291]
 }
 
-fn put_batch(rt: &HostRuntime, bytes: u64, words: u64, room: u64, number: u64, count: u64) {
+// What was asked, and number and count.
+fn put_batch(rt: &HostRuntime, bytes: u64, words: u64, room: u64, answer: Result<u32, Refusal>) {
+    let (number, count) = match answer {
+        Ok(count) => (0, count),
+        Err(r) => (r.number(), 0),
+    };
     put(rt, b'B');
     put_size(rt, bytes);
     put_size(rt, words);
     put_size(rt, room);
     put(rt, b':');
-    put_size(rt, number);
-    put_size(rt, count);
+    put_size(rt, number as u64);
+    put_size(rt, count as u64);
 }
 
 // A batch that is lent the first `room` words of the memory.
 fn work(rt: &HostRuntime, sheet: &[u8], points: &[i32], memory: &mut [i32], room: usize)
     requires { (room ≤ length memory.old) × (14 ≤ length memory.old) }
 {
-    let r = batch::batch(sheet, points, &mut memory[0..room]);
+    let answer = batch::batch(sheet, points, &mut memory[0..room]);
     put_batch(
         rt,
         sheet.len() as u64,
         points.len() as u64,
         room as u64,
-        r.number as u64,
-        r.count as u64,
+        answer,
     );
     put_words(rt, &memory[0..14]);
 }
@@ -168,17 +173,17 @@ fn put_asked(rt: &HostRuntime, letter: u8, bytes: u64, p: Point) {
 }
 
 // Number and values, and the word half if some rounding met one; or the refusal number.
-fn put_answer(rt: &HostRuntime, r: Answer) {
-    match r {
-        Answer::Counts(first, second, half) => {
+fn put_answer(rt: &HostRuntime, answer: Result<TwoCounts, Refusal>) {
+    match answer {
+        Ok(c) => {
             put_size(rt, 0);
-            put_float(rt, first);
-            put_float(rt, second);
-            if half {
+            put_float(rt, c.first);
+            put_float(rt, c.second);
+            if c.half {
                 let _ = Print::write_all(rt, b" half");
             }
         }
-        Answer::Refused(number) => put_size(rt, number as u64),
+        Err(r) => put_size(rt, r.number() as u64),
     }
     put(rt, b'\n');
 }

@@ -6,4 +6,4 @@ use Rattle.survey_samples.proofs.back.Goals as goal
 pub show_reduction-requires : goal.show_reduction-requires
 show_reduction-requires c =
     let there = kept _ _ c.easting_known.ensures c.if-not-easting_known.false in
-    (c.requires, rw c.size.ensures (easting-within _ _ there), kept _ _ c.northing_known.ensures c.if-not-northing_known.false)
+    (rw c.size.ensures (easting-within _ _ there), kept _ _ c.northing_known.ensures c.if-not-northing_known.false)

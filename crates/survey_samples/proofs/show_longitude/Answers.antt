@@ -7,7 +7,7 @@ use Rattle.extent.proofs.Reach.{longitude_span}
 use Rattle.survey_samples.proofs.show_longitude.Goals as goal
 
 pub position-at-requires : goal.position-at-requires
-position-at-requires c = let placed = longitude-placed _ _ c.requires.0 in (placed, lit≤ tt, place-step _ _ _ placed, c.requires.1)
+position-at-requires c = let placed = longitude-placed _ _ c.args.sheet.known in (lit≤ tt, lit≤ tt, lit≤ tt, place-step _ _ _ placed, c.requires)
 
 pub q_of-requires : goal.q_of-requires
-q_of-requires c = le_trans c.requires.1.most (longitude_span _ c.requires.0.passes)
+q_of-requires c = le_trans c.requires.most (longitude_span _ c.args.sheet.known.passes)

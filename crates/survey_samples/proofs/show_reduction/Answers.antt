@@ -14,10 +14,10 @@ use Rattle.survey_samples.proofs.show_reduction.Goals as goal
 pub reduction-requires : goal.reduction-requires
 reduction-requires c =
     let d-is : to_z w64 (of_z w64 c.for_reduction-read.result.d.value) ≡ c.for_reduction-read.result.d.value = search rules in
-    let x : c.args.x ≤ most_x = le_trans c.requires.1.most (le_trans (easting_span _ c.requires.0.passes) (lit≤ tt)) in
+    let x : c.args.x ≤ most_x = le_trans c.requires.0.most (le_trans (easting_span _ c.args.sheet.known.passes) (lit≤ tt)) in
     (c.for_reduction-read.ensures.1, x, rw d-is c.for_reduction-read.ensures.2)
 
 pub reduced_of-requires : goal.reduced_of-requires
 reduced_of-requires c =
-    let x : c.args.x ≤ most_x = le_trans c.requires.1.most (le_trans (easting_span _ c.requires.0.passes) (lit≤ tt)) in
+    let x : c.args.x ≤ most_x = le_trans c.requires.0.most (le_trans (easting_span _ c.args.sheet.known.passes) (lit≤ tt)) in
     (c.for_reduction-read.ensures.1, x, c.for_reduction-read.ensures.2)
