@@ -8,24 +8,24 @@ ghost use Rattle.refusals.specs.Numbers.{number_of};
 // The refusals, each with the number that the rules give it.
 #[derive(Clone, Copy, PartialEq, Eq)]
 pub enum Refusal {
-    Length = 1,     // of the sheet
-    Kind = 2,       // no kind of the form, or word 0 names no form
-    Repeated = 3,   // a kind that an earlier entry names
-    Rows = 4,       // their number outside the kind's limits
-    Place = 5,      // of a body, or the bodies' end
-    Range = 6,      // of a figure
-    Minute = 7,     // not one more than the row before
-    Bound = 8,      // of a row difference
+    Length = 1, // of the sheet
+    Kind = 2, // no kind of the form, or word 0 names no form
+    Repeated = 3, // a kind that an earlier entry names
+    Rows = 4, // their number outside the kind's limits
+    Place = 5, // of a body, or the bodies' end
+    Range = 6, // of a figure
+    Minute = 7, // not one more than the row before
+    Bound = 8, // of a row difference
     Difference = 9, // not as stated
-    Latitude = 10,  // outside the rows
+    Latitude = 10, // outside the rows
     Longitude = 11, // there is none such, or L is beyond the rows
-    Easting = 12,   // x′ beyond the rows
-    Northing = 13,  // y outside the rows
-    Reduced = 14,   // the reduced northing outside the rows
-    Float = 15,     // no count
-    NoRow = 16,     // with the correction's minute
-    Batch = 17,     // odd, too long, or too little room
-    Line = 18,      // of no known form
+    Easting = 12, // x′ beyond the rows
+    Northing = 13, // y outside the rows
+    Reduced = 14, // the reduced northing outside the rows
+    Float = 15, // no count
+    NoRow = 16, // with the correction's minute
+    Batch = 17, // odd, too long, or too little room
+    Line = 18, // of no known form
 }
 
 impl Refusal {
