@@ -104,6 +104,7 @@ fn answer_lines<A: Answers>(
     let mut at = 0;
     let mut state = h.state;
     let mut end = stream::line_end(buffer, i, to);
+    // No iterator is plainer: `line_end` goes by eight bytes, and the place and the state go on from line to line.
     while end < to {
         let next = by.answer(state, &buffer[i..end], out, at);
         at = next.at;

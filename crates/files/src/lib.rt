@@ -201,6 +201,7 @@ fn fill<R: Read>(reader: &mut R, buf: &mut [u8]) -> (usize, Option<Error>)
     ensures { result.0 ≤ length buf.new }
 {
     let mut done = 0;
+    // The step is what a read gives, so no `for` goes over it.
     while done < buf.len() {
         match read_part(reader, buf, done) {
             Ok(0) => break,

@@ -288,6 +288,7 @@ fn run(rt: &HostRuntime, script: &[u8]) {
     let mut list_end = 0;
     let mut count = 0;
     let mut at = 0;
+    // `split` gives no places, and the name and the list are kept by theirs.
     while at < n {
         let end = stream::line_end(script, at, n);
         let line = part(script, at, end);

@@ -43,14 +43,14 @@ fn first(text: &[u8], byte: u8) -> Option<usize>
 }
 
 // Where the first byte from `from` on stands that is `byte`; `to`, where none before it is.
-fn find(text: &[u8], from: usize, to: usize, byte: u8) -> usize
+pub fn find(text: &[u8], from: usize, to: usize, byte: u8) -> usize
     requires { (from ≤ to) × (to ≤ length text.now) }
     ensures { (result ≡ from + index_of byte (slice from to text.now)) × (result ≤ to) }
 {
     from + first(&text[from..to], byte).unwrap_or(to - from)
 }
 
-// Where the line from `from` on ends: at its line feed, or at `to` where it has not ended. It goes by eight bytes, and in the last of them byte by byte.
+// Where the line from `from` on ends: at its line feed, or at `to` where it has not ended. It goes by eight bytes, and in the last of them byte by byte: by single bytes alone it is slower (bench/notes.md).
 pub fn line_end(buffer: &[u8], from: usize, to: usize) -> usize
     requires { (from ≤ to) × (to ≤ length buffer.now) }
     ensures { (result ≡ from + index_of 10 (slice from to buffer.now)) × (result ≤ to) }
