@@ -5,11 +5,11 @@ ghost use Rattle.std.specs.Prelude.{◌≡◌, ◌*◌, ◌<◌, ◌≤◌, leng
 ghost use Rattle.words.specs.Words.{unsigned_at};
 ghost use Rattle.refusals.specs.Numbers.{number};
 ghost use Rattle.refusals.specs.Faults.{first_told, first_fault};
-ghost use Rattle.entries.specs.Layout.{HasContents, most_kinds, least_rows, most_rows, names_form, width_of};
+ghost use Rattle.entries.specs.Layout.{most_kinds, least_rows, most_rows, names_form, width_of};
 ghost use Rattle.entries.specs.Entries.{kind_at, start_at, rows_at, due_at, body_of};
 ghost use Rattle.contents.specs.Contents.{within, entry_fault, sized, ends, verdict_told, numbers_of, contents_by, contents_of, Placed};
 
-use entries::{Form, Place};
+use entries::{Contents, Place};
 use refusals::{Found, Refusal};
 
 // Why a sheet does not pass: the refusal, and its kind and row. A fault of length, word 0 or contents has kind 0 and, as row, the entry's place counted from 1: 0 for length and word 0, one
@@ -29,77 +29,76 @@ fn is_within(least: usize, n: usize, most: usize) -> bool
 }
 
 // Whether entry e names one of the form's kinds.
-fn names_kind(s: &[u8], f: Form, e: usize) -> bool
-    requires { HasContents f s.now × (e < f.kinds) }
-    ensures { result ≡ within 1 (kind_at f s.now e) f.kinds }
+fn names_kind(c: Contents, e: usize) -> bool
+    requires { e < c.form.kinds }
+    ensures { result ≡ within 1 (kind_at c.entry.form c.entry.sheet.now e) c.entry.form.kinds }
 {
-    is_within(1, entries::kind_at(s, f, e), f.kinds)
+    is_within(1, c.kind_at(e), c.form.kinds)
 }
 
 // Whether entry e's rows are within its kind's limits.
-fn rows_allowed(s: &[u8], f: Form, e: usize) -> bool
-    requires { HasContents f s.now × (e < f.kinds) × (kind_at f s.now e ≤ most_kinds) }
-    ensures { result ≡ within (least_rows (kind_at f s.now e)) (rows_at f s.now e) (most_rows (kind_at f s.now e)) }
+fn rows_allowed(c: Contents, e: usize) -> bool
+    requires { (e < c.form.kinds) × (kind_at c.form c.sheet.now e ≤ most_kinds) }
+    ensures { result ≡ within (least_rows (kind_at c.entry.form c.entry.sheet.now e)) (rows_at c.entry.form c.entry.sheet.now e) (most_rows (kind_at c.entry.form c.entry.sheet.now e)) }
 {
-    let kind = entries::kind_at(s, f, e);
+    let kind = c.kind_at(e);
     is_within(
         entries::least_rows(kind),
-        entries::rows_at(s, f, e),
+        c.rows_at(e),
         entries::most_rows(kind),
     )
 }
 
 // Whether entry e has its body start at the word due, where it has to.
-fn starts_at(s: &[u8], f: Form, e: usize, due: usize) -> bool
-    requires { HasContents f s.now × (e < f.kinds) × (due ≡ due_at f s.now e) }
-    ensures { result ≡ eqb (start_at f s.now e) (due_at f s.now e) }
+fn starts_at(c: Contents, e: usize, due: usize) -> bool
+    requires { (e < c.form.kinds) × (due ≡ due_at c.form c.sheet.now e) }
+    ensures { result ≡ eqb (start_at c.entry.form c.entry.sheet.now e) (due_at c.entry.form c.entry.sheet.now e) }
 {
-    entries::start_at(s, f, e) == due
+    c.start_at(e) == due
 }
 
 // Entry e's fault; due is the word at which its body has to start.
-fn entry_fault(s: &[u8], f: Form, e: usize, due: usize) -> Result<(), Refusal>
-    requires { HasContents f s.now × (e < f.kinds) × (due ≡ due_at f s.now e) }
-    ensures { number result ≡ entry_fault f s.now e }
+fn entry_fault(c: Contents, e: usize, due: usize) -> Result<(), Refusal>
+    requires { (e < c.form.kinds) × (due ≡ due_at c.form c.sheet.now e) }
+    ensures { number result ≡ entry_fault c.entry.form c.entry.sheet.now e }
 {
-    if !names_kind(s, f, e) {
+    if !names_kind(c, e) {
         return Err(Refusal::Kind);
     }
-    if entries::named_before(s, f, e) {
+    if c.named_before(e) {
         return Err(Refusal::Repeated);
     }
-    if !rows_allowed(s, f, e) {
+    if !rows_allowed(c, e) {
         return Err(Refusal::Rows);
     }
-    if !starts_at(s, f, e, due) {
+    if !starts_at(c, e, due) {
         return Err(Refusal::Place);
     }
     Ok(())
 }
 
 // The first fault of the entries.
-fn entries(s: &[u8], f: Form) -> Result<(), Found>
-    requires { HasContents f s.now }
-    ensures { first_told result ≡ first_fault (entry_fault f s.now) f.kinds 0 }
+fn entries(c: Contents) -> Result<(), Found>
+    ensures { first_told result ≡ first_fault (entry_fault c.entry.form c.entry.sheet.now) c.entry.form.kinds 0 }
 {
-    let mut due = entries::first_body(f);
-    for e in 0..f.kinds {
-        if let Err(refusal) = entry_fault(s, f, e, due) {
+    let mut due = entries::first_body(c.form);
+    for e in 0..c.form.kinds {
+        if let Err(refusal) = entry_fault(c, e, due) {
             return Err(Found { refusal, place: e });
         }
-        due += entries::span_at(s, f, e);
+        due += c.span_at(e);
     }
     Ok(())
 }
 
 // Whether the last entry's body ends the sheet, where no entry has a fault.
-fn ends_sheet(s: &[u8], f: Form) -> bool
-    requires { HasContents f s.now × ((first_fault (entry_fault f s.now) f.kinds 0).number ≡ 0) }
-    ensures { result ≡ ends f s.now }
+fn ends_sheet(c: Contents) -> bool
+    requires { (first_fault (entry_fault c.form c.sheet.now) c.form.kinds 0).number ≡ 0 }
+    ensures { result ≡ ends c.entry.form c.entry.sheet.now }
 {
-    let last = f.kinds - 1;
-    let end = entries::start_at(s, f, last) + entries::span_at(s, f, last);
-    4 * end == s.len()
+    let last = c.form.kinds - 1;
+    let end = c.start_at(last) + c.span_at(last);
+    4 * end == c.sheet.len()
 }
 
 // Whether the sheet has a length that a sheet of its form may have.
@@ -123,22 +122,21 @@ fn is_known(s: &[u8]) -> bool
 }
 
 // The first fault of the entries of a form and the end.
-fn contents_by(s: &[u8], f: Form) -> Result<(), Refused>
-    requires { HasContents f s.now }
-    ensures { verdict_told result ≡ contents_by f s.now }
+fn contents_by(c: Contents) -> Result<(), Refused>
+    ensures { verdict_told result ≡ contents_by c.entry.form c.entry.sheet.now }
 {
-    if let Err(found) = entries(s, f) {
+    if let Err(found) = entries(c) {
         return Err(Refused {
             refusal: found.refusal,
             kind: 0,
             row: found.place + 1,
         });
     }
-    if !ends_sheet(s, f) {
+    if !ends_sheet(c) {
         return Err(Refused {
             refusal: Refusal::Place,
             kind: 0,
-            row: f.kinds + 1,
+            row: c.form.kinds + 1,
         });
     }
     Ok(())
@@ -162,7 +160,10 @@ pub fn contents(s: &[u8]) -> Result<(), Refused>
             row: 0,
         });
     }
-    contents_by(s, entries::form_of(s))
+    contents_by(Contents {
+        sheet: s,
+        form: entries::form_of(s),
+    })
 }
 
 // The table of a kind in a sheet whose contents have no fault: the sheet, the kind, and where its body lies.

@@ -13,6 +13,14 @@ pub struct Form {
     pub words: usize,
 }
 
+// A sheet that is as long as the contents of its form, and that form.
+#[derive(Clone, Copy)]
+pub struct Contents<'a> {
+    pub sheet: &'a [u8],
+    pub form: Form,
+    pub ghost there: { HasContents form sheet.now },
+}
+
 // Where a kind's body lies: the word at which it starts, its rows, and the step from a row to the next, in the point's unit.
 #[derive(Clone, Copy)]
 pub struct Place {
@@ -169,86 +177,87 @@ pub fn first_body(f: Form) -> usize
     f.words * f.kinds + FIRST_ENTRY
 }
 
-// Word j of entry e.
-fn entry_word(s: &[u8], f: Form, e: usize, j: usize) -> usize
-    requires { HasContents f s.now × (e < f.kinds) × (j < entry_words) }
-    ensures { (result ≡ entry_word f s.now e j) × (result < 4_294_967_296) }
-{
-    count_at(s, f.words * e + FIRST_ENTRY + j)
-}
-
-// Entry e's kind.
-pub fn kind_at(s: &[u8], f: Form, e: usize) -> usize
-    requires { HasContents f s.now × (e < f.kinds) }
-    ensures { (result ≡ kind_at f s.now e) × (result < 4_294_967_296) }
-{
-    entry_word(s, f, e, 0)
-}
-
-// The word at which entry e has its body start.
-pub fn start_at(s: &[u8], f: Form, e: usize) -> usize
-    requires { HasContents f s.now × (e < f.kinds) }
-    ensures { (result ≡ start_at f s.now e) × (result < 4_294_967_296) }
-{
-    entry_word(s, f, e, 1)
-}
-
-// Entry e's rows.
-pub fn rows_at(s: &[u8], f: Form, e: usize) -> usize
-    requires { HasContents f s.now × (e < f.kinds) }
-    ensures { (result ≡ rows_at f s.now e) × (result < 4_294_967_296) }
-{
-    entry_word(s, f, e, 2)
-}
-
-// The words of entry e's body.
-pub fn span_at(s: &[u8], f: Form, e: usize) -> usize
-    requires { HasContents f s.now × (e < f.kinds) × (kind_at f s.now e ≤ most_kinds) }
-    ensures { (result ≡ span_at f s.now e) × (result < 4_294_967_296 * most_width) }
-{
-    rows_at(s, f, e) * width_of(kind_at(s, f, e))
-}
-
-// Whether one of the first n entries names the kind.
-fn is_named(s: &[u8], f: Form, kind: usize, n: usize) -> bool
-    requires { HasContents f s.now × (n ≤ f.kinds) }
-    ensures { result ≡ named f s.now kind n }
-{
-    for e in (0..n).rev() {
-        if kind_at(s, f, e) == kind {
-            return true;
-        }
+impl Contents<'_> {
+    // Word j of entry e.
+    fn word(self, e: usize, j: usize) -> usize
+        requires { (e < self.form.kinds) × (j < entry_words) }
+        ensures { (result ≡ entry_word self.entry.form self.entry.sheet.now e j) × (result < 4_294_967_296) }
+    {
+        count_at(self.sheet, self.form.words * e + FIRST_ENTRY + j)
     }
-    false
-}
 
-// Whether an entry before e names e's kind.
-pub fn named_before(s: &[u8], f: Form, e: usize) -> bool
-    requires { HasContents f s.now × (e < f.kinds) }
-    ensures { result ≡ named f s.now (kind_at f s.now e) e }
-{
-    is_named(s, f, kind_at(s, f, e), e)
-}
-
-// Which entry names the kind.
-fn entry_of(s: &[u8], f: Form, kind: usize) -> usize
-    requires { HasContents f s.now }
-    ensures { (result ≡ entry_of f s.now kind f.kinds) × (result < f.kinds) }
-{
-    for e in (0..f.kinds).rev() {
-        if kind_at(s, f, e) == kind {
-            return e;
-        }
+    // Entry e's kind.
+    pub fn kind_at(self, e: usize) -> usize
+        requires { e < self.form.kinds }
+        ensures { (result ≡ kind_at self.entry.form self.entry.sheet.now e) × (result < 4_294_967_296) }
+    {
+        self.word(e, 0)
     }
-    0
-}
 
-// The step of entry e's table.
-fn step_at(s: &[u8], f: Form, e: usize) -> u64
-    requires { HasContents f s.now × (e < f.kinds) }
-    ensures { result ≡ step_at f s.now e }
-{
-    usual_step(kind_at(s, f, e))
+    // The word at which entry e has its body start.
+    pub fn start_at(self, e: usize) -> usize
+        requires { e < self.form.kinds }
+        ensures { (result ≡ start_at self.entry.form self.entry.sheet.now e) × (result < 4_294_967_296) }
+    {
+        self.word(e, 1)
+    }
+
+    // Entry e's rows.
+    pub fn rows_at(self, e: usize) -> usize
+        requires { e < self.form.kinds }
+        ensures { (result ≡ rows_at self.entry.form self.entry.sheet.now e) × (result < 4_294_967_296) }
+    {
+        self.word(e, 2)
+    }
+
+    // The words of entry e's body.
+    pub fn span_at(self, e: usize) -> usize
+        requires { (e < self.form.kinds) × (kind_at self.form self.sheet.now e ≤ most_kinds) }
+        ensures { (result ≡ span_at self.entry.form self.entry.sheet.now e) × (result < 4_294_967_296 * most_width) }
+    {
+        self.rows_at(e) * width_of(self.kind_at(e))
+    }
+
+    // The step of entry e's table.
+    fn step_at(self, e: usize) -> u64
+        requires { e < self.form.kinds }
+        ensures { result ≡ step_at self.entry.form self.entry.sheet.now e }
+    {
+        usual_step(self.kind_at(e))
+    }
+
+    // Whether one of the first n entries names the kind.
+    fn is_named(self, kind: usize, n: usize) -> bool
+        requires { n ≤ self.form.kinds }
+        ensures { result ≡ named self.entry.form self.entry.sheet.now kind n }
+    {
+        for e in (0..n).rev() {
+            if self.kind_at(e) == kind {
+                return true;
+            }
+        }
+        false
+    }
+
+    // Whether an entry before e names e's kind.
+    pub fn named_before(self, e: usize) -> bool
+        requires { e < self.form.kinds }
+        ensures { result ≡ named self.entry.form self.entry.sheet.now (kind_at self.entry.form self.entry.sheet.now e) e }
+    {
+        self.is_named(self.kind_at(e), e)
+    }
+
+    // Which entry names the kind.
+    fn entry_of(self, kind: usize) -> usize
+        ensures { (result ≡ entry_of self.entry.form self.entry.sheet.now kind self.entry.form.kinds) × (result < self.entry.form.kinds) }
+    {
+        for e in (0..self.form.kinds).rev() {
+            if self.kind_at(e) == kind {
+                return e;
+            }
+        }
+        0
+    }
 }
 
 // Where the kind's body lies.
@@ -256,12 +265,15 @@ pub fn place_of(s: &[u8], kind: usize) -> Place
     requires { least_bytes (form_of s.now) ≤ length s.now }
     ensures { result ≡ place_of s.now kind }
 {
-    let f = form_of(s);
-    let e = entry_of(s, f, kind);
+    let c = Contents {
+        sheet: s,
+        form: form_of(s),
+    };
+    let e = c.entry_of(kind);
     Place {
-        start: start_at(s, f, e),
-        rows: rows_at(s, f, e),
-        step: step_at(s, f, e),
+        start: c.start_at(e),
+        rows: c.rows_at(e),
+        step: c.step_at(e),
     }
 }
 

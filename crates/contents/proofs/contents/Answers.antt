@@ -20,8 +20,8 @@ returns-then-not-is_known c = search (stop, go)
 pub form_of-requires : goal.form_of-requires
 form_of-requires c = search has_word
 
-pub contents_by-requires : goal.contents_by-requires
-contents_by-requires c = search (has-contents, long)
+pub invariant_of-contents_by : goal.invariant_of-contents_by
+invariant_of-contents_by c = record { there = search (has-contents, long) }
 
 pub returns : goal.returns
 unfolding contents_of

@@ -5,18 +5,17 @@ use Rattle.contents.specs.Contents.{contents_by}
 use Rattle.refusals.proofs.Numbers.{number-some}
 use Rattle.refusals.proofs.Ladders.{stop, go}
 use Rattle.contents.proofs.OfFault.{refused_in, passed_in, number-none, entry_place}
-use borrow.Author.Rules.{rules}
 use Rattle.contents.proofs.contents_by.Goals as goal
 
 pub overflow_add-result : goal.overflow_add-result
-overflow_add-result c = let small = entry_place _ _ _ c.requires.small c.in-Err.ensures in omega (arith, small)
+overflow_add-result c = let small = entry_place _ _ _ c.args.c.there.small c.in-Err.ensures in omega (arith, small)
 
 pub returns-in-Err : goal.returns-in-Err
 unfolding contents_by
 returns-in-Err c = refused_in _ _ _ c.in-Err.ensures (number-some _)
 
 pub ends_sheet-requires : goal.ends_sheet-requires
-ends_sheet-requires c = (search rules, number-none c.in_default.ensures refl)
+ends_sheet-requires c = number-none c.in_default.ensures refl
 
 pub returns-then-not-ends_sheet : goal.returns-then-not-ends_sheet
 unfolding contents_by

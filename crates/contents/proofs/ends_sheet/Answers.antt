@@ -6,8 +6,7 @@ use Rattle.contents.proofs.ends_sheet.Goals as goal
 
 pub returns : goal.returns
 returns c =
-    let p = c.requires in
-    end_is _ _ p.0.small p.1 _ _ _ c.start_at.ensures.0 c.span_at.ensures.0 refl
+    end_is _ _ c.args.c.there.small c.requires _ _ _ c.start_at.ensures.0 c.span_at.ensures.0 refl
 
 pub span_at-requires : goal.span_at-requires
-span_at-requires c = search (last-known, rules)
+span_at-requires c = let there = c.args.c.there in search (last-known, rules)

@@ -13,20 +13,20 @@ use Rattle.contents.proofs.entries.Goals as goal
 
 pub returns-in-Err : goal.returns-in-Err
 returns-in-Err c =
-    let i : c.loop-e.e < c.args.f.kinds = omega arith in
+    let i : c.loop-e.e < c.args.c.form.kinds = omega arith in
     here _ _ _ c.loop-e.invariant.2 i c.in-Err.ensures (number-some _)
 
 pub returns : goal.returns
-returns c = search end
+returns c = let there = c.args.c.there in search end
 
 pub loop-e-init : goal.loop-e-init
 unfolding due_at
-loop-e-init c = (search rules, omega arith, rw sub-zero)
+loop-e-init c = (let there = c.args.c.there in search rules, omega arith, rw sub-zero)
 
 pub span_at-due-requires : goal.span_at-due-requires
-span_at-due-requires c = search (fault-known, rules)
+span_at-due-requires c = let there = c.args.c.there in search (fault-known, rules)
 
 pub loop-e-preserved : goal.loop-e-preserved
 loop-e-preserved c =
-    let i : c.loop-e.e < c.args.f.kinds = omega arith in
-    (search due_next, omega arith, on _ _ _ c.loop-e.invariant.2 i c.in_default.ensures refl)
+    let i : c.loop-e.e < c.args.c.form.kinds = omega arith in
+    (let there = c.args.c.there in search due_next, omega arith, on _ _ _ c.loop-e.invariant.2 i c.in_default.ensures refl)

@@ -9,5 +9,5 @@ use Rattle.contents.proofs.entries.Given as goal
 
 abbrev pub invariant-loop-e : goal.invariant-loop-e
 invariant-loop-e l =
-    (l.due ≡ due_at l.f l.s l.e) × (l.due ≤ most_first + l.e * (4_294_967_296 * most_width))
-    × (first_fault (entry_fault l.f l.s) l.f.kinds 0 ≡ first_fault (entry_fault l.f l.s) (l.f.kinds - l.e) l.e)
+    (l.due ≡ due_at l.c.form l.c.sheet.now l.e) × (l.due ≤ most_first + l.e * (4_294_967_296 * most_width))
+    × (first_fault (entry_fault l.c.form l.c.sheet.now) l.c.form.kinds 0 ≡ first_fault (entry_fault l.c.form l.c.sheet.now) (l.c.form.kinds - l.e) l.e)

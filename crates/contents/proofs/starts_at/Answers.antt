@@ -2,4 +2,4 @@
 use Rattle.contents.proofs.starts_at.Goals as goal
 
 pub returns : goal.returns
-returns c = rw (c.start_at.ensures.0, c.requires.2)
+returns c = rw (c.start_at.ensures.0, c.requires.1)

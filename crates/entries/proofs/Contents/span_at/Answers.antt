@@ -1,9 +1,9 @@
--- `entries::span_at` meets its contract. Assumes nothing.
+-- `entries::Contents::span_at` meets its contract. Assumes nothing.
 use Prim.Native.Nat.{◌*◌, ◌<◌}
 use Rattle.entries.specs.Layout.{most_width}
 use Rattle.entries.proofs.Spans.{span_small, span_is}
 use native.Mathlib.Omega.{arith}
-use Rattle.entries.proofs.span_at.Goals as goal
+use Rattle.entries.proofs.Contents.span_at.Goals as goal
 
 pub returns : goal.returns
 returns c = (search span_is, search span_small)

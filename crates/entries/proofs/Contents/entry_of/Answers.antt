@@ -1,7 +1,7 @@
--- `entries::entry_of` meets its contract. Assumes nothing.
+-- `entries::Contents::entry_of` meets its contract. Assumes nothing.
 use native.Mathlib.Omega.{arith}
 use Rattle.entries.proofs.Search.{found_here, found_on, found_end}
-use Rattle.entries.proofs.entry_of.Goals as goal
+use Rattle.entries.proofs.Contents.entry_of.Goals as goal
 
 pub returns-then-kind_at-kind : goal.returns-then-kind_at-kind
 returns-then-kind_at-kind c = (search found_here, omega arith)

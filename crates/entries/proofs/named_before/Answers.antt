@@ -1,6 +1,0 @@
--- `entries::named_before` meets its contract. Assumes nothing.
-use mathlib.Core.Path.{◌∙◌}
-use Rattle.entries.proofs.named_before.Goals as goal
-
-pub returns : goal.returns
-returns c = c.is_named.ensures ∙ rw c.kind_at.ensures.0

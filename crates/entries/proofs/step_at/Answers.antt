@@ -1,5 +1,0 @@
--- `entries::step_at` meets its contract. Assumes nothing.
-use Rattle.entries.proofs.step_at.Goals as goal
-
-pub returns : goal.returns
-returns c = cc
