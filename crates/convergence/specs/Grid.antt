@@ -9,8 +9,7 @@ use Rattle.extent.specs.Extent.{x_prime, scale_known, northing_known}
 use Rattle.convergence.specs.declared.Grid.{Grid}
 use Rattle.convergence.specs.declared.Taken.{Taken}
 
--- The answer: Δα in 0.1″, k in 10⁻⁷, and whether "some rounding in it met a half (no in a refusal)". "A refused conversion carries zeros."
--- The answer, as it is told: number, convergence and scale, and whether some rounding on the way to them met a half. "A refused conversion carries zeros", and no half.
+-- The answer, as it is told: number, Δα in 0.1″, k in 10⁻⁷, and whether "some rounding in it met a half (no in a refusal)". "A refused conversion carries zeros."
 pub record GridTold : Type 0 where
   pub number : ℕ
   pub convergence : ℤ

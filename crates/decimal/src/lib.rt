@@ -109,6 +109,7 @@ fn spell(out: &mut [u8], at: usize, v: u64, k: usize)
 {
     let mut i = k;
     let mut rest = v;
+    // Two digits a turn: by one, over an iterator, it took about 8 in 100 longer.
     while 1 < i {
         i -= 2;
         let pair = (rest % 100) as u8;

@@ -79,10 +79,16 @@ pub const SCALE_WIDTH: usize = 1;
 // A minute of latitude, in 0.001″: the step of latitude.
 pub const ONE_MINUTE: u64 = 60_000;
 
-// By kind: least rows, most rows. There is no kind 0.
-const LEAST_ROWS: [usize; 7] = [0, 1, 2, 2, 2, 2, 2];
-
-const MOST_ROWS: [usize; 7] = [0, 1, 1_200, 61, 100, 10, 200];
+// By kind: the least rows and the most. There is no kind 0.
+const ROWS: [(usize, usize); 7] = [
+    (0, 0),
+    (1, 1),
+    (2, 1_200),
+    (2, 61),
+    (2, 100),
+    (2, 10),
+    (2, 200),
+];
 
 // The form that word 0 names; where it names none, the one by whose least length the sheet is judged.
 fn form_named(word: usize) -> Form
@@ -142,7 +148,7 @@ pub fn least_rows(kind: usize) -> usize
     requires { kind ≤ most_kinds }
     ensures { result ≡ least_rows kind }
 {
-    LEAST_ROWS[kind]
+    ROWS[kind].0
 }
 
 // The most rows that the kind may have.
@@ -150,7 +156,7 @@ pub fn most_rows(kind: usize) -> usize
     requires { kind ≤ most_kinds }
     ensures { result ≡ most_rows kind }
 {
-    MOST_ROWS[kind]
+    ROWS[kind].1
 }
 
 // Word i as a size, read without its sign.

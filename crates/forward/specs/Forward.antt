@@ -13,8 +13,7 @@ use Rattle.forward.specs.declared.Plane.{Plane}
 use Rattle.forward.specs.declared.Longitude.{Longitude}
 use Rattle.forward.specs.declared.Taken.{Taken}
 
--- The answer: x and y, in 0.01 ft, and whether "some rounding in it met a half (no in a refusal)". "A refused conversion carries zeros."
--- The answer, as it is told: number, x and y, and whether some rounding on the way to them met a half. "A refused conversion carries zeros", and no half.
+-- The answer, as it is told: number, x and y in 0.01 ft, and whether "some rounding in it met a half (no in a refusal)". "A refused conversion carries zeros."
 pub record PlaneTold : Type 0 where
   pub number : ℕ
   pub x : ℤ

@@ -15,8 +15,7 @@ use Rattle.inverse.specs.declared.Geographic.{Geographic}
 use Rattle.inverse.specs.declared.ForReduction.{ForReduction}
 use Rattle.inverse.specs.declared.Taken.{Taken}
 
--- The answer: latitude and west longitude, in 0.001″, and whether "some rounding in it met a half (no in a refusal)". "A refused conversion carries zeros."
--- The answer, as it is told: number, latitude and longitude, and whether some rounding on the way to them met a half. "A refused conversion carries zeros", and no half.
+-- The answer, as it is told: number, latitude and west longitude in 0.001″, and whether "some rounding in it met a half (no in a refusal)". "A refused conversion carries zeros."
 pub record GeographicTold : Type 0 where
   pub number : ℕ
   pub latitude : ℤ

@@ -18,7 +18,7 @@ pub fn size(z: i64) -> u64
     requires { nat_abs z < 2 ^ 63 }
     ensures { result ≡ nat_abs z }
 {
-    if z < 0 { (-z) as u64 } else { z as u64 }
+    z.unsigned_abs()
 }
 
 // A size with the sign of l.

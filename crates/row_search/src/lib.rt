@@ -35,6 +35,7 @@ fn down(b: &[u8], w: usize, c: usize, n: usize, from: usize, z: i64) -> usize
     ensures { (result < n) × (le_z (column b.now w c result) z ≡ true) }
 {
     let mut row = from;
+    // A search from a start: a range that ends at row 0 or at n would need an answer behind it that is never given.
     while !not_above(b, w, c, row, z) {
         row -= 1;
     }
@@ -47,6 +48,7 @@ fn up(b: &[u8], w: usize, c: usize, n: usize, from: usize, z: i64) -> usize
     ensures { (result ≡ last_not_above (column b.now w c) n z) × (result < n) }
 {
     let mut row = from;
+    // As above: the answer is the row before the first that is above.
     while row + 1 < n && not_above(b, w, c, row + 1, z) {
         row += 1;
     }
