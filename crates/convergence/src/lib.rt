@@ -33,10 +33,10 @@ fn taken_by(sheet: Passed, xp: i64, y: i32, north: u64, east: u64) -> Taken
     requires { (scale_known sheet.bytes.now xp ≡ true) × (northing_known sheet.bytes.now y ≡ true) × (north ≡ step_of sheet.bytes.now northing) × (east ≡ step_of sheet.bytes.now scale) }
     ensures { (result ≡ taken_at sheet.entry.bytes.now xp y) × (result.m.value ≤ most_m) × (nat_abs result.k.value ≤ 10_010_000) }
 {
-    let at = extent::position(sheet, entries::NORTHING, north, (y as i64) as u64);
+    let at = extent::position_of(sheet, entries::NORTHING, north, (y as i64) as u64);
     let m = tables::m_at(sheet, at);
     let size = rounding::size(xp);
-    let beside = extent::position(sheet, entries::SCALE, east, size);
+    let beside = extent::position_of(sheet, entries::SCALE, east, size);
     Taken {
         m,
         k: tables::k_at(sheet, beside),

@@ -4,10 +4,12 @@
 ghost use Rattle.std.specs.Prelude.{◌≡◌, ◌≤◌, nat_abs};
 ghost use Rattle.entries.specs.Layout.{last_kind, least_rows};
 ghost use Rattle.entries.specs.Entries.{rows_of, step_of, Within};
+ghost use Rattle.contents.specs.Contents.{Placed};
 ghost use Rattle.reading.specs.Tables.{within_rows, offset_of};
 ghost use Rattle.tables.specs.Figures.{InTable};
 ghost use Rattle.extent.specs.Extent.{from_first, latitude_known, l_of, size_known, longitude_known, x_prime, easting_known, scale_known, northing_known, reduced_known};
 
+use entries::Place;
 use reading::At;
 use tables::Passed;
 
@@ -20,14 +22,21 @@ fn within(sheet: Passed, kind: usize, z: i64) -> bool
     reading::within_rows(place.rows, place.step, z)
 }
 
-// The position of an offset in the kind's table, worked once for all that is read there. `step` is the table's step: where the caller gives it as a constant, the compiler turns
-// the division into a product.
-pub fn position(sheet: Passed, kind: usize, step: u64, offset: u64) -> At
+// The position of an offset in the kind's table, worked once for all that is read there. `place` is the place of its body, and `step` its step. Where the
+// caller gives the step as a constant, the compiler turns the division into a product.
+pub fn position(s: &[u8], place: Place, kind: usize, step: u64, offset: u64) -> At
+    requires { Placed s.now kind place × (2 ≤ least_rows kind) × (step ≡ step_of s.now kind) × Within s.now kind offset }
+    ensures { InTable s.now kind result × (offset_of result ≡ offset) }
+{
+    reading::at_offset(place.rows, step as u32, offset as u32)
+}
+
+// The same in a sheet that passes.
+pub fn position_of(sheet: Passed, kind: usize, step: u64, offset: u64) -> At
     requires { (1 ≤ kind) × (kind ≤ last_kind) × (2 ≤ least_rows kind) × (step ≡ step_of sheet.bytes.now kind) × Within sheet.bytes.now kind offset }
     ensures { InTable sheet.entry.bytes.now kind result × (offset_of result ≡ offset) }
 {
-    let place = sheet.table(kind).place;
-    reading::at_offset(place.rows, step as u32, offset as u32)
+    position(sheet.bytes, sheet.table(kind).place, kind, step, offset)
 }
 
 // The latitude's distance from row 0, in 0.001″.

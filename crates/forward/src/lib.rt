@@ -46,7 +46,7 @@ fn longitude_by(sheet: Passed, step: u64, size: u64) -> Longitude
     requires { (step ≡ step_of sheet.bytes.now longitude) × Within sheet.bytes.now longitude size }
     ensures { result ≡ longitude_at sheet.entry.bytes.now size }
 {
-    let at = extent::position(sheet, entries::LONGITUDE, step, size);
+    let at = extent::position_of(sheet, entries::LONGITUDE, step, size);
     Longitude {
         c: tables::c_at(sheet, at),
         b: tables::b_at(sheet, at),
@@ -130,7 +130,7 @@ fn plane_at(sheet: Passed, latitude: i32, longitude: i32) -> Plane
 {
     let t = extent::from_first(sheet, latitude) as u64;
     let l = extent::l_of(sheet, longitude);
-    let north = extent::position(sheet, entries::LATITUDE, entries::ONE_MINUTE, t);
+    let north = extent::position_of(sheet, entries::LATITUDE, entries::ONE_MINUTE, t);
     let taken = taken_at(sheet, north, rounding::size(l));
     worked(taken, sheet.origin.false_easting, l)
 }

@@ -37,7 +37,7 @@ fn p_by(sheet: Passed, step: u64, y: u64) -> Rounded<u64>
     requires { (step ≡ step_of sheet.bytes.now northing) × Within sheet.bytes.now northing y }
     ensures { (result.value ≡ p_at sheet.entry.bytes.now y) × (result.value ≤ most_p) × (result.half ≡ p_half sheet.entry.bytes.now y) }
 {
-    let at = extent::position(sheet, entries::NORTHING, step, y);
+    let at = extent::position_of(sheet, entries::NORTHING, step, y);
     tables::p_at(sheet, at)
 }
 
@@ -46,7 +46,7 @@ fn d_by(sheet: Passed, step: u64, size: u64) -> Rounded<i64>
     requires { (step ≡ step_of sheet.bytes.now easting) × Within sheet.bytes.now easting size }
     ensures { (result.value ≡ d_at sheet.entry.bytes.now size) × (nat_abs result.value ≤ most_d) × (result.half ≡ d_half sheet.entry.bytes.now size) }
 {
-    let at = extent::position(sheet, entries::EASTING, step, size);
+    let at = extent::position_of(sheet, entries::EASTING, step, size);
     tables::d_at(sheet, at)
 }
 
@@ -139,7 +139,7 @@ fn b_by(sheet: Passed, step: u64, size: u64) -> Rounded<i64>
     requires { (step ≡ step_of sheet.bytes.now longitude) × Within sheet.bytes.now longitude size }
     ensures { (result.value ≡ b_at sheet.entry.bytes.now size) × (nat_abs result.value ≤ most_b) × (result.half ≡ b_half sheet.entry.bytes.now size) }
 {
-    let at = extent::position(sheet, entries::LONGITUDE, step, size);
+    let at = extent::position_of(sheet, entries::LONGITUDE, step, size);
     tables::b_at(sheet, at)
 }
 

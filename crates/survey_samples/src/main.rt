@@ -76,7 +76,7 @@ fn show_latitude(rt: &HostRuntime, sheet: Passed, at: At)
 fn show_longitude(rt: &HostRuntime, sheet: Passed, size: u64)
     requires { Within sheet.bytes.now longitude size }
 {
-    let at = extent::position(sheet, entries::LONGITUDE, sheet.places.longitude.step, size);
+    let at = extent::position_of(sheet, entries::LONGITUDE, sheet.places.longitude.step, size);
     print_size(rt, b" q ", steps::q_of(size).value);
     print_figure(rt, b" b ", tables::b_at(sheet, at).value);
     print_figure(rt, b" c ", tables::c_at(sheet, at).value);
@@ -88,7 +88,7 @@ fn show_point(rt: &HostRuntime, sheet: Passed, latitude: i32, longitude: i32)
 {
     let t = extent::from_first(sheet, latitude) as u64;
     let l = extent::l_of(sheet, longitude);
-    let north = extent::position(sheet, entries::LATITUDE, entries::ONE_MINUTE, t);
+    let north = extent::position_of(sheet, entries::LATITUDE, entries::ONE_MINUTE, t);
     show_latitude(rt, sheet, north);
     print_figure(rt, b" L ", l);
     show_longitude(rt, sheet, rounding::size(l));

@@ -25,8 +25,8 @@ pub returns : goal.returns
 returns c =
     let m = c.m_at-m.ensures in
     let k = c.k_at.ensures in
-    let y = c.position-at.ensures.1 ∙ ap nat_abs (wide c.ranges.y).is in
-    let x = c.position-beside.ensures.1 ∙ size_is (goal.at.returns c).After-size-size in
+    let y = c.position_of-at.ensures.1 ∙ ap nat_abs (wide c.ranges.y).is in
+    let x = c.position_of-beside.ensures.1 ∙ size_is (goal.at.returns c).After-size-size in
     (taken_is _ _ _ _ y x m.0 m.2 k.0 k.2, m.1, k.1)
 
 pub overflow_cast-y : goal.overflow_cast-y
@@ -35,11 +35,11 @@ overflow_cast-y c = wide_fits c.ranges.y
 pub overflow_cast-y-2 : goal.overflow_cast-y-2
 overflow_cast-y-2 c = unsigned_fits (wide c.ranges.y) (size_non_neg (northing_reach _ _ c.requires.1)) tt
 
-pub position-at-requires : goal.position-at-requires
-position-at-requires c = let p = c.requires in (lit≤ tt, lit≤ tt, lit≤ tt, p.2, rw (wide c.ranges.y).is (northing-within _ _ p.1))
+pub position_of-at-requires : goal.position_of-at-requires
+position_of-at-requires c = let p = c.requires in (lit≤ tt, lit≤ tt, lit≤ tt, p.2, rw (wide c.ranges.y).is (northing-within _ _ p.1))
 
 pub size-size-requires : goal.size-size-requires
 size-size-requires c = size_small (xp_is (goal.at.size-size-requires c).Start) (le_trans (xp_most _ _ c.args.y c.args.sheet.known.passes c.requires.0) (lit≤ tt))
 
-pub position-beside-requires : goal.position-beside-requires
-position-beside-requires c = let p = c.requires in (lit≤ tt, lit≤ tt, lit≤ tt, p.3, rw (size_is (goal.at.position-beside-requires c).After-size-size) (scale-within _ _ p.0))
+pub position_of-beside-requires : goal.position_of-beside-requires
+position_of-beside-requires c = let p = c.requires in (lit≤ tt, lit≤ tt, lit≤ tt, p.3, rw (size_is (goal.at.position_of-beside-requires c).After-size-size) (scale-within _ _ p.0))

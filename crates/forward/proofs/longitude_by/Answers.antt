@@ -7,7 +7,7 @@ pub returns : goal.returns
 returns c =
     let k = c.c_at.ensures in
     let b = c.b_at.ensures in
-    longitude_is _ _ _ c.position-at.ensures.1 b.0 b.2 k.0 k.2
+    longitude_is _ _ _ c.position_of-at.ensures.1 b.0 b.2 k.0 k.2
 
-pub position-at-requires : goal.position-at-requires
-position-at-requires c = (lit≤ tt, lit≤ tt, lit≤ tt, c.requires.0, c.requires.1)
+pub position_of-at-requires : goal.position_of-at-requires
+position_of-at-requires c = (lit≤ tt, lit≤ tt, lit≤ tt, c.requires.0, c.requires.1)

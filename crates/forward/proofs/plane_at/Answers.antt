@@ -46,8 +46,8 @@ module _ (c : After-taken_at-taken) where
   abbrev start : Start
   start = (goal.at.After-taken_at-taken c).Start
 
-  north_is : offset_of c.position-north.result ≡ nat_abs (from_first start.args.sheet.bytes.now start.args.latitude)
-  north_is = c.position-north.ensures.1 ∙ t_is (goal.at.After-taken_at-taken c).After-from_first-t
+  north_is : offset_of c.position_of-north.result ≡ nat_abs (from_first start.args.sheet.bytes.now start.args.latitude)
+  north_is = c.position_of-north.ensures.1 ∙ t_is (goal.at.After-taken_at-taken c).After-from_first-t
 
   easting_is : to_z w64 (of_z w64 start.args.sheet.origin.false_easting) ≡ false_easting_of start.args.sheet.bytes.now
   easting_is = (easting_held _ start.args.sheet.known.passes _ start.args.sheet.measured).is
@@ -65,11 +65,11 @@ returns c =
 pub overflow_cast-t : goal.overflow_cast-t
 overflow_cast-t c = size_fits c.from_first-t.type_inv (distance_is c) (latitude-small _ c.args.sheet.known.passes _ c.requires.0) tt
 
-pub position-north-requires : goal.position-north-requires
-position-north-requires c = let z = c.args.sheet.known.passes in (lit≤ tt, lit≤ tt, lit≤ tt, minute_step _ z, rw (t_is (goal.at.position-north-requires c).After-from_first-t) (latitude-within _ z _ c.requires.0))
+pub position_of-north-requires : goal.position_of-north-requires
+position_of-north-requires c = let z = c.args.sheet.known.passes in (lit≤ tt, lit≤ tt, lit≤ tt, minute_step _ z, rw (t_is (goal.at.position_of-north-requires c).After-from_first-t) (latitude-within _ z _ c.requires.0))
 
 pub size-requires : goal.size-requires
 size-requires c = bits_below c.l_of-l.result c.l_of-l.type_inv c.l_of-l.ensures.1 tt
 
 pub taken_at-taken-requires : goal.taken_at-taken-requires
-taken_at-taken-requires c = (c.position-north.ensures.0, size_within c)
+taken_at-taken-requires c = (c.position_of-north.ensures.0, size_within c)

@@ -5,6 +5,6 @@ use Rattle.inverse.proofs.b_by.Goals as goal
 
 pub returns : goal.returns
 returns c =
-    let at = c.position-at.ensures.1 in
+    let at = c.position_of-at.ensures.1 in
     let b = c.b_at.ensures in
     (b.0 ∙ ap (b_at _) at, b.1, b.2 ∙ ap (b_half _) at)

@@ -17,8 +17,8 @@ overflow_cast-t c =
     let distance : c.from_first-t.result ≡ from_first c.args.sheet.bytes.now c.args.latitude = c.from_first-t.ensures ∙ ap (from_first _) north in
     size_fits c.from_first-t.type_inv distance (latitude-small _ c.args.sheet.known.passes _ c.requires.0) tt
 
-pub position-north-requires : goal.position-north-requires
-position-north-requires c =
+pub position_of-north-requires : goal.position_of-north-requires
+position_of-north-requires c =
     let north : to_z w32 (of_z w32 c.args.latitude) ≡ c.args.latitude = search rules in
     let distance : c.from_first-t.result ≡ from_first c.args.sheet.bytes.now c.args.latitude = c.from_first-t.ensures ∙ ap (from_first _) north in
     let t = size_is c.from_first-t.type_inv distance (latitude_reach _ _ c.requires.0) in
