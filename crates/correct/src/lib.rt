@@ -4,6 +4,7 @@
 ghost use Rattle.std.specs.Prelude.{◌≡◌, true, ◌+◌, ◌*◌, ◌<◌, ◌≤◌, length};
 ghost use Rattle.refusals.specs.Numbers.{number};
 ghost use Rattle.entries.specs.Layout.{latitude, row_bytes};
+ghost use Rattle.contents.specs.Contents.{contents_of};
 ghost use Rattle.rules.specs.Latitude.{figures_in_range};
 ghost use Rattle.writing.specs.Rows.{put_figures};
 ghost use Rattle.judge.specs.Judge.{bound_before, bound_after, judged_by};
@@ -47,6 +48,14 @@ fn correct_body(b: &mut [u8], n: usize, minute: i32, f: Figures) -> Result<(), R
     Ok(())
 }
 
+// Why the contents have a fault, 1 to 5, where they have one.
+fn faultless(sheet: &[u8]) -> Result<(), Refusal>
+    ensures { number result ≡ (contents_of sheet.now).number }
+{
+    contents::contents(sheet)?;
+    Ok(())
+}
+
 // A correction of the minute's latitude row: new y0 (0.01 ft), H (0.000001), V (0.000001) and a (0.001). It is accepted and written; or refused by 1 to 5, 16, 6 or 8, and the
 // sheet stays as it was. The latitude body is lent to its corrector as the part of the sheet that holds it.
 pub fn correct(
@@ -60,7 +69,7 @@ pub fn correct(
     ensures answer { number result ≡ correction_of sheet.old minute (figures y0 h v a) }
     ensures memory { sheet.new ≡ corrected_of sheet.old minute (figures y0 h v a) }
 {
-    contents::contents(sheet)?;
+    faultless(sheet)?;
     let place = entries::place_of(sheet, entries::LATITUDE);
     let start = 4 * place.start;
     let end = start + 4 * (place.rows * entries::LATITUDE_WIDTH);

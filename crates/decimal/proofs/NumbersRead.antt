@@ -47,6 +47,17 @@ unfolding in_range
 not_held (pos n) h = let g : 2_147_483_647 < n = lt_of_not-le (λ (l : n ≤ 2_147_483_647). h (record { sfits = omega arith })) in rw (lt-leb n 2_147_483_647 g)
 not_held (negsuc n) h = let g : 2_147_483_647 < n = lt_of_not-le (λ (l : n ≤ 2_147_483_647). h (record { sfits = omega arith })) in rw (lt-leb n 2_147_483_647 g)
 
+-- a size past the greatest: 2,147,483,647, and one more after a minus
+past : (minus : Bool) (value : ℕ) → 2_147_483_647 + minus_length minus < value → fits (signed_value minus value) ≡ false
+unfolding in_range
+past false v h = rw (lt-leb v 2_147_483_647 (omega (arith, h)))
+past true zero h = absurd (omega (arith, h))
+past true (suc n) h = rw (lt-leb n 2_147_483_647 (omega (arith, h)))
+
+pub too_large : (minus : Bool) (d : Digits) → 2_147_483_647 + minus_length minus < d.value → None ≡ signed minus d
+unfolding signed need
+too_large minus d h = rw (past minus d.value h)
+
 byte_is : (minus : Bool) → bool_byte minus ≡ cond minus 1 0
 byte_is true = refl
 byte_is false = refl

@@ -5,6 +5,9 @@ use Prim.Native.Nat.{ℕ}
 use lib.IntN.{ℤ}
 use borrow.Author.Tests.{eq-eqb, ne_eqb}
 use Rattle.refusals.specs.Ladder.{need}
+use Rattle.refusals.specs.declared.Refusal.{Refusal}
+use Rattle.refusals.specs.Numbers.{number_of as refusal_number}
+use Rattle.refusals.proofs.Numbers.{number-some}
 use Rattle.rounding.proofs.Bits.{both-same}
 use Rattle.std.specs.Prelude.{Option, Some, None}
 use Rattle.door.specs.Door.{Answer}
@@ -31,6 +34,13 @@ refuses number a b half h = rw (ne_eqb number 0 h)
 pub answers : (number : ℕ) (a b : ℤ) (half : Bool) → number ≡ 0 → Counts (float a) (float b) half ≡ answer_of number a b half
 unfolding answer_of need
 answers number a b half e = rw (eq-eqb number 0 e)
+
+-- a refusal by its number, and counts by 0
+pub refused_told : (r : Refusal) (a b : ℤ) (half : Bool) → Refused (refusal_number r) ≡ answer_of (refusal_number r) a b half
+refused_told r a b half = refuses (refusal_number r) a b half (number-some r)
+
+pub counts_told : (a b : ℤ) (half : Bool) → Counts (float a) (float b) half ≡ answer_of 0 a b half
+counts_told a b half = answers 0 a b half refl
 
 -- ---- the door, before the sheet and after
 pub before : (p : Option (ℤ × ℤ)) (convert : ℤ → ℤ → Answer) → p ≡ None → Refused 15 ≡ door_of p convert

@@ -2,10 +2,15 @@
 // sheet: it is not looked at. All else is what the conversions of `convert` answer. A count of 0.01 ft is given in feet besides.
 #![tactic(auto)]
 
-ghost use Rattle.std.specs.Prelude.{◌≡◌};
-ghost use Rattle.counts.specs.Whole.{float};
-ghost use Rattle.door.specs.Door.{counts_of, door_told, to_plane, to_geographic, to_grid, feet_of};
+ghost use Rattle.std.specs.Prelude.{◌≡◌, Ok};
+ghost use Rattle.forward.specs.Forward.{plane_told};
+ghost use Rattle.inverse.specs.Inverse.{geographic_told};
+ghost use Rattle.convergence.specs.Grid.{grid_told};
+ghost use Rattle.door.specs.Door.{counts_of, door_told, answer_of, plane_answer, geographic_answer, grid_answer, to_plane, to_geographic, to_grid, feet_of};
 
+use convergence::Grid;
+use forward::Plane;
+use inverse::Geographic;
 use refusals::Refusal;
 
 // The tools' point: latitude and west longitude in 0.001″, or x and y in 0.01 ft, in this order.
@@ -33,8 +38,9 @@ fn counts_of(p: Point) -> Option<(i32, i32)>
 }
 
 // Two counts as the tools get them.
+#[tactic(auto, using(crate::proofs::Ways::counts_told))]
 fn two_counts(a: i32, b: i32, half: bool) -> TwoCounts
-    ensures { (result.first ≡ float a) × (result.second ≡ float b) × (result.half ≡ half) }
+    ensures { door_told (Ok result) ≡ answer_of 0 a b half }
 {
     TwoCounts {
         first: a as f64,
@@ -42,6 +48,34 @@ fn two_counts(a: i32, b: i32, half: bool) -> TwoCounts
         half,
     }
 }
+
+// ---- each conversion's answer as the tools get it: two counts, or the refusal
+
+#[tactic(auto, using(crate::proofs::Ways::refused_told, crate::proofs::Ways::counts_told))]
+fn plane_counts(plane: Result<Plane, Refusal>) -> Result<TwoCounts, Refusal>
+    ensures { door_told result ≡ plane_answer (plane_told plane) }
+{
+    let r = plane?;
+    Ok(two_counts(r.x, r.y, r.half))
+}
+
+#[tactic(auto, using(crate::proofs::Ways::refused_told, crate::proofs::Ways::counts_told))]
+fn geographic_counts(geographic: Result<Geographic, Refusal>) -> Result<TwoCounts, Refusal>
+    ensures { door_told result ≡ geographic_answer (geographic_told geographic) }
+{
+    let r = geographic?;
+    Ok(two_counts(r.latitude, r.longitude, r.half))
+}
+
+#[tactic(auto, using(crate::proofs::Ways::refused_told, crate::proofs::Ways::counts_told))]
+fn grid_counts(grid: Result<Grid, Refusal>) -> Result<TwoCounts, Refusal>
+    ensures { door_told result ≡ grid_answer (grid_told grid) }
+{
+    let r = grid?;
+    Ok(two_counts(r.convergence, r.scale, r.half))
+}
+
+// ---- the conversions
 
 // Geographic to plane: of latitude and west longitude in 0.001″, x and y in 0.01 ft.
 // Refusals in order: 15, before the sheet is looked at; the check's number, 1 to 9; 10; 11.
@@ -51,8 +85,7 @@ pub fn geographic_to_plane(sheet: &[u8], p: Point) -> Result<TwoCounts, Refusal>
     let Some((latitude, longitude)) = counts_of(p) else {
         return Err(Refusal::Float);
     };
-    let r = convert::geographic_to_plane(sheet, latitude, longitude)?;
-    Ok(two_counts(r.x, r.y, r.half))
+    plane_counts(convert::geographic_to_plane(sheet, latitude, longitude))
 }
 
 // Plane to geographic: of x and y in 0.01 ft, latitude and west longitude in 0.001″.
@@ -63,8 +96,7 @@ pub fn plane_to_geographic(sheet: &[u8], p: Point) -> Result<TwoCounts, Refusal>
     let Some((x, y)) = counts_of(p) else {
         return Err(Refusal::Float);
     };
-    let r = convert::plane_to_geographic(sheet, x, y)?;
-    Ok(two_counts(r.latitude, r.longitude, r.half))
+    geographic_counts(convert::plane_to_geographic(sheet, x, y))
 }
 
 // Convergence and scale: of x and y in 0.01 ft, Δα in 0.1″ and k in 10⁻⁷.
@@ -75,8 +107,7 @@ pub fn convergence_and_scale(sheet: &[u8], p: Point) -> Result<TwoCounts, Refusa
     let Some((x, y)) = counts_of(p) else {
         return Err(Refusal::Float);
     };
-    let r = convert::convergence_and_scale(sheet, x, y)?;
-    Ok(two_counts(r.convergence, r.scale, r.half))
+    grid_counts(convert::convergence_and_scale(sheet, x, y))
 }
 
 // A count of 0.01 ft in feet, for any count: one f64 division by 100, rounded once. An f64 holds each count as it is.

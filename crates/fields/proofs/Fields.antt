@@ -1,4 +1,4 @@
--- How far a line's numbers reach. Assumes nothing.
+-- The laws of a line's numbers: what the code finds is the definition's, and how far each reaches. Assumes nothing.
 use mathlib.Core.Path.{◌≡◌, refl}
 use mathlib.Core.Bool.{Bool, true, false, cond}
 use mathlib.Core.List.{List}
@@ -13,6 +13,24 @@ use Rattle.decimal.specs.Reading.{number_of}
 use Rattle.decimal.proofs.NumbersRead.{number-most}
 use Rattle.fields.specs.Fields.{field, field_at, last_at}
 
+-- ---- what the code finds: n is the number that it read, if it read one, b the byte behind
+pub field_is : (line : List ℕ) (at b : ℕ) (n : Number) → Some n ≡ number_of (drop at line) → b ≡ get_or line (at + n.length) 0 → cond (eqb b 32) (Some (field n.value (at + n.length + 1))) None ≡ field_at line at
+unfolding field_at
+field_is line at b n e g = rw (← e, g)
+
+pub field_none : (line : List ℕ) (at : ℕ) → None ≡ number_of (drop at line) → None ≡ field_at line at
+unfolding field_at
+field_none line at e = rw (← e)
+
+pub last_is : (line : List ℕ) (at : ℕ) (n : Number) → Some n ≡ number_of (drop at line) → cond (eqb (at + n.length) (length line)) (Some (field n.value (at + n.length))) None ≡ last_at line at
+unfolding last_at
+last_is line at n e = rw (← e)
+
+pub last_none : (line : List ℕ) (at : ℕ) → None ≡ number_of (drop at line) → None ≡ last_at line at
+unfolding last_at
+last_none line at e = rw (← e)
+
+-- ---- how far each reaches
 pub field-most : (line : List ℕ) (at : ℕ) → IfSome (field_at line at) (λ f. f.next ≤ at + 12)
 unfolding field_at
 field-most line at = go (number_of (drop at line)) (number-most (drop at line))

@@ -196,7 +196,7 @@ fn read_part<R: Read>(reader: &mut R, buf: &mut [u8], from: usize) -> Result<usi
     Err(Error::from(ErrorKind::Interrupted))
 }
 
-// Reads until the buffer is full, the input ends or a read fails; how many bytes came, and what failed.
+// Reads until the buffer is full, the input ends or a read fails; how many bytes came, and what failed. An interrupted read is tried again.
 fn fill<R: Read>(reader: &mut R, buf: &mut [u8]) -> (usize, Option<Error>)
     ensures { result.0 ≤ length buf.new }
 {
@@ -212,11 +212,20 @@ fn fill<R: Read>(reader: &mut R, buf: &mut [u8]) -> (usize, Option<Error>)
     (done, None)
 }
 
-// Reads until the buffer is full, the input ends or a read fails; how many bytes came.
+// Reads until the buffer is full, the input ends, or a read fails or is interrupted; how many bytes came.
 pub fn read_full<R: Read>(reader: &mut R, buf: &mut [u8]) -> usize
     ensures { result ≤ length buf.new }
 {
-    fill(reader, buf).0
+    let mut done = 0;
+    // As in `fill`.
+    while done < buf.len() {
+        match read_once(reader, buf, done) {
+            Ok(0) => break,
+            Ok(count) => done += count,
+            Err(_) => break,
+        }
+    }
+    done
 }
 
 // ---- a file

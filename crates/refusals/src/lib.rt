@@ -2,7 +2,7 @@
 #![tactic(auto)]
 
 ghost use Rattle.std.specs.Prelude.{◌≡◌};
-ghost use Rattle.refusals.specs.Tests.{in_range};
+ghost use Rattle.refusals.specs.Tests.{in_range, same_as};
 ghost use Rattle.refusals.specs.Numbers.{number_of};
 
 // The refusals, each with the number that the rules give it.
@@ -49,4 +49,11 @@ pub fn in_range(least: i32, x: i32, most: i32) -> bool
     ensures { result ≡ in_range least x most }
 {
     (least..=most).contains(&x)
+}
+
+// Whether x is y.
+pub fn same_as(x: i32, y: i32) -> bool
+    ensures { result ≡ same_as x y }
+{
+    x == y
 }

@@ -97,7 +97,7 @@ fn show_point(rt: &HostRuntime, sheet: Passed, latitude: i32, longitude: i32)
 
 // A station forward, with the figures on the way.
 fn forward(rt: &HostRuntime, sheet: Passed, latitude: i32, longitude: i32) {
-    let answer = forward::forward(sheet, latitude, longitude).into();
+    let answer = convert::geographic_to_plane(sheet.bytes, latitude, longitude).into();
     print_line(rt, b"G", latitude, longitude, answer);
     if !extent::latitude_known(sheet, latitude) {
         return;
@@ -126,7 +126,7 @@ fn show_reduction(rt: &HostRuntime, sheet: Passed, x: u64, y: i32)
 
 // A station back, with the figures on the way.
 fn back(rt: &HostRuntime, sheet: Passed, x: i32, y: i32) {
-    let answer = inverse::inverse(sheet, x, y).into();
+    let answer = convert::plane_to_geographic(sheet.bytes, x, y).into();
     print_line(rt, b"P", x, y, answer);
     let xp = extent::x_prime(sheet, x);
     if !extent::easting_known(sheet, xp) {
@@ -142,7 +142,7 @@ fn back(rt: &HostRuntime, sheet: Passed, x: i32, y: i32) {
 fn station(rt: &HostRuntime, sheet: Passed, point: [i32; 4]) {
     forward(rt, sheet, point[0], point[1]);
     back(rt, sheet, point[2], point[3]);
-    let answer = convergence::convergence(sheet, point[2], point[3]).into();
+    let answer = convert::convergence_and_scale(sheet.bytes, point[2], point[3]).into();
     print_line(rt, b"S", point[2], point[3], answer);
 }
 

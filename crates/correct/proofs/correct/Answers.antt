@@ -1,5 +1,5 @@
 -- `correct::correct` meets its contract. Assumes nothing.
-use mathlib.Core.Path.{◌≡◌, refl, sym, ap, ◌∙◌}
+use mathlib.Core.Path.{◌≡◌, refl, sym, ◌∙◌}
 use lib.Dec.{lit≤}
 use mir.Syntax.{w32}
 use mir.Val.{to_z, of_z}
@@ -7,7 +7,7 @@ use Rattle.refusals.specs.Numbers.{number}
 use Rattle.refusals.proofs.Numbers.{number-some}
 use Rattle.refusals.proofs.Handed.{handed}
 use Rattle.entries.specs.Layout.{latitude}
-use Rattle.contents.specs.Contents.{number_of, Placed}
+use Rattle.contents.specs.Contents.{contents_of, Placed}
 use Rattle.contents.proofs.Cut.{start_fits, words_fit, bytes_fit, end_fits, ends-within, rows_there}
 use Rattle.sheet_check.proofs.Parts.{long_enough}
 use Rattle.correct.specs.Correction.{figures}
@@ -18,16 +18,18 @@ use Rattle.correct.proofs.correct.Goals.{After-correct_body, After-place_of-plac
 
 -- the latitude body's place
 placed : (c : After-place_of-place) → Placed c.args.sheet.now latitude c.place_of-place.result
-placed c = record { contents = sym (ap number_of c.in_ok-contents.ensures); place = c.place_of-place.ensures; least = lit≤ tt; most = lit≤ tt }
+placed c = record { contents = sym c.in_ok-faultless.ensures; place = c.place_of-place.ensures; least = lit≤ tt; most = lit≤ tt }
 
-pub returns-in_err-contents-clause-answer : goal.returns-in_err-contents-clause-answer
-returns-in_err-contents-clause-answer c = handed number _ _ c.from_residual.ensures.1 ∙ (contents_refuse _ _ _ _ c.in_err-contents.ensures (number-some _)).0
+pub returns-in_err-faultless-clause-answer : goal.returns-in_err-faultless-clause-answer
+returns-in_err-faultless-clause-answer c =
+    let told = c.in_err-faultless.ensures in
+    handed number _ _ c.from_residual.ensures.1 ∙ told ∙ (contents_refuse _ _ _ (contents_of _) refl (λ z. number-some _ (told ∙ z))).0
 
-pub returns-in_err-contents-clause-memory : goal.returns-in_err-contents-clause-memory
-returns-in_err-contents-clause-memory c = (contents_refuse _ _ _ _ c.in_err-contents.ensures (number-some _)).1
+pub returns-in_err-faultless-clause-memory : goal.returns-in_err-faultless-clause-memory
+returns-in_err-faultless-clause-memory c = (contents_refuse _ _ _ (contents_of _) refl (λ z. number-some _ (c.in_err-faultless.ensures ∙ z))).1
 
 pub place_of-place-requires : goal.place_of-place-requires
-place_of-place-requires c = long_enough _ (sym (ap number_of c.in_ok-contents.ensures))
+place_of-place-requires c = long_enough _ (sym c.in_ok-faultless.ensures)
 
 pub overflow_mul-start : goal.overflow_mul-start
 overflow_mul-start c = start_fits _ latitude _ (placed (goal.at.overflow_mul-start c).After-place_of-place)
