@@ -48,7 +48,7 @@ fn correct_body(b: &mut [u8], n: usize, minute: i32, f: Figures) -> Result<(), R
     Ok(())
 }
 
-// Why the contents have a fault, 1 to 5, where they have one.
+// Ok where the contents have no fault; else the refusal, 1 to 5.
 fn faultless(sheet: &[u8]) -> Result<(), Refusal>
     ensures { number result ≡ (contents_of sheet.now).number }
 {

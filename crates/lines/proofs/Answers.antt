@@ -30,6 +30,7 @@ module _ (s : List ℕ) (l : Line) (z : (check_of s).number ≡ 0) (a b : ℤ) (
   unfolding values_of
   grid-values r f h = rw (f, grid-passes s a b r z h, x, y)
 
+-- ---- what a line of no known form is answered
 pub none-known : (s : List ℕ) (l : Option Line) → ((x : Line) → l ≡ Some x → ⊥) → no_values ≡ values_of s l
 unfolding values_of
 none-known s None h = refl
